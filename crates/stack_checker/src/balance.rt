@@ -4,6 +4,7 @@ ghost use Rattle.std.specs.Prelude.{◌≡◌, ◌<◌, length};
 ghost use Rattle.stack_algebra.specs.Steps.{steps};
 ghost use Rattle.stack_contact.specs.FreeBlocks.{frees_of, free_of};
 ghost use Rattle.stack_certificate.specs.Certificate.{forces_view};
+ghost use Rattle.stack_equilibrium.specs.WrittenSums.{axis_part};
 ghost use Rattle.stack_checker.specs.declared.types.Reason.TheVariants as reasons;
 ghost use Rattle.stack_checker.specs.declared.sign.WantedSign.TheVariants.{Zero};
 ghost use Rattle.stack_checker.specs.Signs.{has_sign};
@@ -29,11 +30,16 @@ fn placed_sums(b: usize, made: Result<Wrench, SumWide>) -> Result<Wrench, Stop>
 }
 
 /// The sum of free block number `b` along an axis is 0.
-fn require_zero(b: usize, axis: Axis, number: Whole) -> Result<(), Stop>
-    ensures { result ≡ demand (has_sign Zero number.value) (reasons.Balance b axis) }
+fn require_zero(b: usize, axis: Axis, sums: Wrench) -> Result<(), Stop>
+    ensures { result ≡ demand (has_sign Zero (axis_part axis sums)) (reasons.Balance b axis) }
 {
+    let number = match axis {
+        Axis::X => sums.fx,
+        Axis::Y => sums.fy,
+        Axis::M => sums.m,
+    };
     unless(
-        WantedSign::Zero.is_of(number),
+        WantedSign::Zero.is_of(Whole::of(number)),
         Stop::Rejected(Reason::Balance { block: b, axis }),
     )
 }
@@ -43,10 +49,10 @@ fn require_zero(b: usize, axis: Axis, number: Whole) -> Result<(), Stop>
 fn check_balance(b: usize, made: Result<Wrench, SumWide>) -> Result<(), Stop>
     ensures { result ≡ written_balance b made }
 {
-    let wrench = placed_sums(b, made)?;
-    require_zero(b, Axis::X, Whole::of(wrench.fx))?;
-    require_zero(b, Axis::Y, Whole::of(wrench.fy))?;
-    require_zero(b, Axis::M, Whole::of(wrench.m))
+    let sums = placed_sums(b, made)?;
+    require_zero(b, Axis::X, sums)?;
+    require_zero(b, Axis::Y, sums)?;
+    require_zero(b, Axis::M, sums)
 }
 
 /// Free block number `b` of the survey is balanced.

@@ -1,10 +1,11 @@
 -- Products that 128 bits hold.
 use Rattle.std.proofs.Common.{◌≡◌, ◌∙◌, ap, sym, subst, ℕ, ◌<◌, ◌^◌, ℤ, pos, negsuc, ◌+ℤ◌, ◌-ℤ◌, ◌*ℤ◌, neg_ℤ}
 use Rattle.std.proofs.Common.{SFits, to_z, of_z, lit<, arith}
-use mir.Syntax.{w128}
+use mir.Syntax.{w64, w128}
 use Rattle.std.proofs.lemmas.Int.{ints, to_z-of_z, fits_signed_mul}
 use Rattle.stack_algebra.proofs.Integers.{sums, expand}
 use Rattle.stack_algebra.proofs.Order.{◌≼◌, mul-bounds}
+use Rattle.stack_polygon.specs.Limits.{IsNear}
 use Rattle.stack_polygon.specs.Sizes.{IsStep, IsThreeCoordinates, IsWithin}
 use Rattle.stack_statics.specs.Weights.{IsUnitWeight}
 use Rattle.stack_equilibrium.specs.LoadSizes.{IsForce, IsTurn, IsMoment}
@@ -14,7 +15,10 @@ use Rattle.stack_equilibrium.proofs.TriangleSums.{product_within}
 abbrev pub wide : ℤ → ℤ
 wide z = to_z w128 (of_z w128 z)
 
--- a product as it is stored
+-- a product of two numbers as they are stored fits, and is their product
+fitting_product : (a b : ℤ) → SFits w128 a → SFits w128 b → SFits w128 (a *ℤ b) → SFits w128 (wide a *ℤ wide b)
+fitting_product a b f g h = subst (SFits w128) (λ i. sym (to_z-of_z w128 a f) i *ℤ sym (to_z-of_z w128 b g) i) h
+
 stored_product : (a b : ℤ) → SFits w128 a → SFits w128 b → SFits w128 (a *ℤ b) →
     to_z w128 (of_z w128 (to_z w128 (of_z w128 a) *ℤ to_z w128 (of_z w128 b))) ≡ a *ℤ b
 stored_product a b f g h = rw (to_z-of_z w128 a f, to_z-of_z w128 b g) (to_z-of_z w128 (a *ℤ b) h)
@@ -25,17 +29,31 @@ times_fits a b h k = fits_signed_mul w128 a b 3000000 256000000000000 (omega (ar
 
 -- three coordinates times twice an area, as they are stored, fit
 pub times_product : (a b : ℤ) → SFits w128 a → SFits w128 b → IsThreeCoordinates a → IsWithin 32 8000000000000 b
-    → SFits w128 (to_z w128 (of_z w128 a) *ℤ to_z w128 (of_z w128 b))
-times_product a b f g h k = subst (SFits w128) (λ i. sym (to_z-of_z w128 a f) i *ℤ sym (to_z-of_z w128 b g) i)
-    (times_fits a b h k)
+    → SFits w128 (wide a *ℤ wide b)
+times_product a b f g h k = fitting_product a b f g (times_fits a b h k)
 
 pub times_stored : (a b : ℤ) → SFits w128 a → SFits w128 b → IsThreeCoordinates a → IsWithin 32 8000000000000 b
     → to_z w128 (of_z w128 (to_z w128 (of_z w128 a) *ℤ to_z w128 (of_z w128 b))) ≡ a *ℤ b
 times_stored a b f g h k = stored_product a b f g (times_fits a b h k)
 
+times_within : (a b : ℤ) → IsThreeCoordinates a → IsWithin 32 8000000000000 b →
+    IsWithin 32 24000000000000000000 (a *ℤ b)
+times_within a b h k =
+    let p = product_within a b (pos 256000000000000) (pos 3000000) (omega (arith, ints, h.low)) h.high
+    (omega (arith, ints, k.low)) (omega (arith, ints, k.high)) in
+    record { low = omega (arith, ints, p.0); high = omega (arith, ints, p.1) }
+
+pub times_is_within : (a b : ℤ) → SFits w128 a → SFits w128 b → IsThreeCoordinates a → IsWithin 32 8000000000000 b
+    → IsWithin 32 24000000000000000000 (wide (wide a *ℤ wide b))
+times_is_within a b f g h k = subst (IsWithin 32 24000000000000000000) (sym (times_stored a b f g h k))
+    (times_within a b h k)
+
 turn_fits : (a b : ℤ) → IsStep a → IsForce b → SFits w128 (a *ℤ b)
 turn_fits a b h k = fits_signed_mul w128 a b 2000000 4000000000 (omega (arith, ints)) (omega (arith, ints))
     (lit< tt)
+
+pub turn_product : (a b : ℤ) → SFits w128 a → SFits w128 b → IsStep a → IsForce b → SFits w128 (wide a *ℤ wide b)
+turn_product a b f g h k = fitting_product a b f g (turn_fits a b h k)
 
 pub turn_stored : (a b : ℤ) → SFits w128 a → SFits w128 b → IsStep a → IsForce b
     → to_z w128 (of_z w128 (to_z w128 (of_z w128 a) *ℤ to_z w128 (of_z w128 b))) ≡ a *ℤ b
@@ -128,10 +146,16 @@ share_within a b h k =
     (omega (arith, ints)) in
     record { low = omega (arith, sums, m); high = omega (arith, sums, simp expand at n) }
 
+pub share_product : (a b : ℤ) → SFits w128 a → SFits w128 b → IsRate a → IsStep b → SFits w128 (wide a *ℤ wide b)
+share_product a b f g h k = fitting_product a b f g (share_fits a b h k)
+
+pub share_stored : (a b : ℤ) → SFits w128 a → SFits w128 b → IsRate a → IsStep b →
+    wide (wide a *ℤ wide b) ≡ a *ℤ b
+share_stored a b f g h k = stored_product a b f g (share_fits a b h k)
+
 pub share_is_within : (a b : ℤ) → SFits w128 a → SFits w128 b → IsRate a → IsStep b →
     IsShare (wide (wide a *ℤ wide b))
-share_is_within a b f g h k = subst IsShare (sym (stored_product a b f g (share_fits a b h k)))
-    (share_within a b h k)
+share_is_within a b f g h k = subst IsShare (sym (share_stored a b f g h k)) (share_within a b h k)
 
 -- a moment is stored as it is
 pub moment_stored : (z : ℤ) → IsMoment z → wide z ≡ z
@@ -143,3 +167,15 @@ opposite_is a = simp expand (omega (arith, sums))
 
 pub opposite_stored : (a : ℤ) → IsMoment a → neg_ℤ (wide a) ≡ negsuc 0 *ℤ a
 opposite_stored a h = ap neg_ℤ (moment_stored a h) ∙ opposite_is a
+
+-- the way from one coordinate to another
+module _ (a b : ℤ) (f : SFits w64 a) (g : SFits w64 b) where
+  abbrev pub way : ℤ
+  way = wide (wide (to_z w64 (of_z w64 a)) -ℤ wide (to_z w64 (of_z w64 b)))
+
+  pub way_stored : way ≡ a -ℤ b
+  way_stored = (λ i. wide (wide (to_z-of_z w64 a f i) -ℤ wide (to_z-of_z w64 b g i))) ∙ omega (arith, ints, f, g)
+
+  pub way_is_step : IsNear a → IsNear b → IsStep way
+  way_is_step h k = subst IsStep (sym way_stored)
+      (record { low = omega (arith, ints, h.high, k.high, h.low, k.low); high = omega (arith, ints, h.high, k.low) })

@@ -67,12 +67,16 @@ written_tangential tx ty d = do
   rises ← made (ty.value *ℤ d.y.value)
   made (runs.value +ℤ rises.value)
 
--- the opening and then the slide, of a difference of velocities
-unfoldable pub written_gap : Bearing → Velocity → Result Gap Wide
-written_gap z d = do
-  opening ← written_normal (whole z.frame.tx) (whole z.frame.ty) d
-  slide ← written_tangential (whole z.frame.tx) (whole z.frame.ty) d
+-- the opening and then the slide along a tangent, of a difference of velocities
+abbrev pub gap_along : Whole → Whole → Velocity → Result Gap Wide
+gap_along tx ty d = do
+  opening ← written_normal tx ty d
+  slide ← written_tangential tx ty d
   Ok (record { opening = opening; slide = slide })
+
+-- those of a bearing
+unfoldable pub written_gap : Bearing → Velocity → Result Gap Wide
+written_gap z d = gap_along (whole z.frame.tx) (whole z.frame.ty) d
 
 -- the opening and the slide at a bearing: the velocity of the second body is made, then that of the first one
 unfoldable pub gap_at : Surveyed → MotionValue → Bearing → Result Gap Wide

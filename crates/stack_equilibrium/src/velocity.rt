@@ -3,7 +3,7 @@
 ghost use Rattle.std.specs.Prelude.{◌≡◌};
 ghost use Rattle.stack_whole.specs.Whole.{whole};
 ghost use Rattle.stack_equilibrium.specs.WrittenVelocities.{written_velocity, written_difference, written_normal};
-ghost use Rattle.stack_equilibrium.specs.WrittenVelocities.{written_tangential, written_gap, at_rest};
+ghost use Rattle.stack_equilibrium.specs.WrittenVelocities.{written_tangential, gap_along, written_gap, at_rest};
 
 use crate::block::Lever;
 use stack_contact::Bearing;
@@ -82,6 +82,15 @@ fn along_tangent(tx: Whole, ty: Whole, difference: Velocity) -> Result<Whole, Wi
     runs.sum(rises)
 }
 
+/// The opening and the slide along this tangent, of a difference of velocities.
+fn gap_along(tx: Whole, ty: Whole, difference: Velocity) -> Result<Gap, Wide>
+    ensures { result ≡ gap_along tx ty difference }
+{
+    let opening = along_normal(tx, ty, difference)?;
+    let slide = along_tangent(tx, ty, difference)?;
+    Ok(Gap { opening, slide })
+}
+
 /// The opening and the slide of a bearing with this difference of velocities.
 #[tactic(auto, unfolding(crate::specs::WrittenVelocities::written_gap))]
 pub fn gap_of(bearing: Bearing, difference: Velocity) -> Result<Gap, Wide>
@@ -89,7 +98,5 @@ pub fn gap_of(bearing: Bearing, difference: Velocity) -> Result<Gap, Wide>
 {
     let tx = Whole::widened(bearing.frame.tx);
     let ty = Whole::widened(bearing.frame.ty);
-    let opening = along_normal(tx, ty, difference)?;
-    let slide = along_tangent(tx, ty, difference)?;
-    Ok(Gap { opening, slide })
+    gap_along(tx, ty, difference)
 }

@@ -25,7 +25,8 @@ fn thrice(x: i64) -> Whole
 fn times(factor: Whole, twice_area: Whole) -> Whole
     requires factor { IsThreeCoordinates factor.value }
     requires area { IsWithin 32 8000000000000 twice_area.value }
-    ensures { result ≡ whole (factor.value *ℤ twice_area.value) }
+    ensures value { result ≡ whole (factor.value *ℤ twice_area.value) }
+    ensures size { IsWithin 32 24000000000000000000 result.value }
 {
     Whole {
         value: factor.value * twice_area.value,

@@ -1,7 +1,7 @@
 -- The numbers of a problem: below the bound in size, and 0 past its rows and columns.
 use Rattle.std.proofs.Common.{◌≡◌, refl, ap, ◌∙◌, ℕ, zero, suc, ◌+◌, ◌<◌, ◌≤◌, Bool, true, false, cond, eqb, ltb, List}
 use Rattle.std.proofs.Common.{[], ◌∷◌, map, length, get_or, arith, SFits, to_z, of_z, to_z-of_z, ltb-true, le-ltb}
-use Rattle.std.proofs.Common.{ne_eqb, ℤ, pos}
+use Rattle.std.proofs.Common.{ne_eqb, ℤ, pos, Option, None, Some}
 use Rattle.stack_rational.proofs.Common.{ints, get_or_past, w128}
 use Rattle.std.specs.List.{AllByRecursion}
 use Rattle.std.proofs.lemmas.Int.{fits_signed_from_abs}
@@ -10,8 +10,8 @@ use Rattle.stack_table.specs.declared.problem.Column.{Column}
 use Rattle.stack_table.specs.declared.problem.Problem.{Problem as Lent}
 use Rattle.stack_table.specs.Table.{plain, columns}
 use Rattle.stack_table.specs.Problem.{Problem, is_below_zero, flipped, turned}
-use Rattle.stack_table.specs.Lent.{IsColumn, IsProblem, entry_in, entries_at, factor_entries, shape_of_problem}
-use Rattle.stack_table.specs.Lent.{problem_of}
+use Rattle.stack_table.specs.Lent.{IsColumn, IsProblem, entry_in, entries_at, factor_count, factor_entries}
+use Rattle.stack_table.specs.Lent.{problem_of, shape_of_problem}
 use Rattle.stack_whole.specs.Limits.{IsBelowBound}
 use Rattle.stack_table.specs.WrittenTable.{written_number}
 
@@ -57,6 +57,14 @@ column_of P h j = either_column P.rows (ltb j (length P.contact.items)) _ _
     (column_at P.rows P.contact.items j h.contact_columns)
     (either_column P.rows (eqb j (length P.contact.items)) (factor_entries P.factor) [] h.factor_column
     (no_entries P.rows))
+
+-- a problem has few columns
+few_factors : (o : Option Column) → factor_count o ≤ 1
+few_factors None = omega arith
+few_factors (Some c) = omega arith
+
+pub few_columns : (P : Lent) → IsProblem P → (a : ℕ) → a ≡ plain (shape_of_problem P) → a + P.rows ≤ 2433
+few_columns P h a e = omega (arith, h.contacts_few, h.rows_few, e, few_factors P.factor)
 
 -- all numbers of the table are small
 either : (b : Bool) (x y : ℤ) → IsBelowBound x → IsBelowBound y → IsBelowBound (cond b x y)

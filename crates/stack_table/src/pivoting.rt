@@ -45,6 +45,5 @@ pub fn pivot_block<S: Exact>(
     let count = divide_row(own, own_marks, columns, divisor, row)?;
     let listed = &columns[..count];
     reduce_rows(above, marks_above, own, listed, column, 0, row)?;
-    reduce_rows(below, marks_below, own, listed, column, row + 1, rows - row)?;
-    Ok(())
+    reduce_rows(below, marks_below, own, listed, column, row + 1, rows - row)
 }

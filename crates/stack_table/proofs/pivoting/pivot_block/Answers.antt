@@ -1,5 +1,6 @@
 use Rattle.std.proofs.Common.{◌≡◌, sym, ap, subst, ◌∙◌, ℕ, suc, ◌<◌, ◌≤◌, ◌+◌, ◌-◌, ◌*◌, ◌++◌, length, take, arith}
-use Rattle.std.proofs.Common.{length-take-le}
+use Rattle.std.proofs.Common.{length-take-le, Some, None}
+use Rattle.std.proofs.lemmas.Result.{on_ok_weaker, MatchResult-weaker}
 use Rattle.stack_rational.proofs.Common.{err_from_is_err_and, Fraction}
 use Rattle.std.proofs.Math.Nat.{add-mul, suc-mul}
 use Rattle.std.proofs.lemmas.Nat.{mul-le}
@@ -51,11 +52,48 @@ divided g c = record {
   none = c.in_ok-count.ensures.wide;
 }
 
+-- the row lies within the block
+room : {row rows size : ℕ} (w : ℕ) → row < rows → size ≡ suc rows * w → row * w + w ≤ size
+room {row} {rows} {size} w l e = row_in row (suc rows) w size (omega (arith, l)) e
+
 pub overflow_mul-start : goal.overflow_mul-start
 overflow_mul-start g c =
-    let l = row_in c.args.row (suc c.args.rows) (length c.args.columns.now) (length c.args.cells.now)
-    (omega (arith, c.requires.row_in)) c.requires.whole in
-    omega (arith, l)
+    omega (arith, room (length c.args.columns.now) c.requires.row_in c.requires.whole)
+
+pub split_at_mut-above-requires : goal.split_at_mut-above-requires
+split_at_mut-above-requires g c =
+    omega (arith, room (length c.args.columns.now) c.requires.row_in c.requires.whole)
+
+pub split_at_mut-own-requires : goal.split_at_mut-own-requires
+split_at_mut-own-requires g c =
+    let l = room (length c.args.columns.now) c.requires.row_in c.requires.whole in
+    omega (arith, l, c.split_at_mut-above.ensures.back_len)
+
+pub split_at_mut-marks_above-requires : goal.split_at_mut-marks_above-requires
+split_at_mut-marks_above-requires g c =
+    omega (arith, room (length c.args.columns.now) c.requires.row_in c.requires.whole, c.requires.block.same)
+
+pub split_at_mut-own_marks-requires : goal.split_at_mut-own_marks-requires
+split_at_mut-own_marks-requires g c =
+    let l = room (length c.args.columns.now) c.requires.row_in c.requires.whole in
+    omega (arith, l, c.requires.block.same, c.split_at_mut-marks_above.ensures.back_len)
+
+pub overflow_add-row : goal.overflow_add-row
+overflow_add-row g c = omega (arith, c.requires.row_in, c.ranges.rows.fits)
+
+pub overflow_sub-rows : goal.overflow_sub-rows
+overflow_sub-rows g c = omega (arith, c.requires.row_in)
+
+pub reduce_rows-requires-clause-numbers : goal.reduce_rows-requires-clause-numbers
+reduce_rows-requires-clause-numbers g c = omega (arith, c.requires.row_in, c.ranges.rows.fits)
+
+pub returns-in_err-count-clause-ok : goal.returns-in_err-count-clause-ok
+returns-in_err-count-clause-ok g c =
+    rw (err_from_is_err_and c.from_residual.result c.from_residual.ensures.1).1 tt
+
+pub returns-in_err-reduce_rows-clause-ok : goal.returns-in_err-reduce_rows-clause-ok
+returns-in_err-reduce_rows-clause-ok g c = rw (err_from_is_err_and
+    c.from_residual-in_err-reduce_rows.result c.from_residual-in_err-reduce_rows.ensures.1).1 tt
 
 -- the column is in the row, before and after the row is divided
 pub bounds-own-column : goal.bounds-own-column
@@ -176,36 +214,26 @@ reduce_rows-requires-2-clause-block g c =
 pub reduce_rows-requires-2-clause-listed : goal.reduce_rows-requires-2-clause-listed
 reduce_rows-requires-2-clause-listed g c = listed g (goal.at.reduce_rows-requires-2-clause-listed g c).In_ok-count
 
-pub returns-in_err-reduce_rows-2-clause-block : goal.returns-in_err-reduce_rows-2-clause-block
-returns-in_err-reduce_rows-2-clause-block g c =
-    block_three g.S.Exact.exact g.S.Exact.MAX _ _ _ _ _ _ c.in_ok-reduce_rows.ensures.block
-    c.in_ok-count.ensures.block c.in_err-reduce_rows-2.ensures.block
-
-pub returns-in_err-reduce_rows-2-clause-wide : goal.returns-in_err-reduce_rows-2-clause-wide
-returns-in_err-reduce_rows-2-clause-wide g c =
-    let at = goal.at.returns-in_err-reduce_rows-2-clause-wide g c in
-    let p =
-    err_from_is_err_and c.from_residual-in_err-reduce_rows-2.result
-    c.from_residual-in_err-reduce_rows-2.ensures.1 in
-    rw (p.1, p.2) (spot_below g.S.Exact.MAX (split g at.After-index-own-column) (divided g at.In_ok-count)
-    c.args.rows _ (omega (arith, c.requires.row_in)) c.in_ok-reduce_rows.ensures.wide
-    c.in_err-reduce_rows-2.ensures.wide)
-
 pub returns-clause-block : goal.returns-clause-block
 returns-clause-block g c =
     block_three g.S.Exact.exact g.S.Exact.MAX _ _ _ _ _ _ c.in_ok-reduce_rows.ensures.block
-    c.in_ok-count.ensures.block c.in_ok-reduce_rows-2.ensures.block
+    c.in_ok-count.ensures.block c.reduce_rows-2.ensures.block
 
 pub returns-clause-ok : goal.returns-clause-ok
 returns-clause-ok g c =
     let at = goal.at.returns-clause-ok g c in
-    after g.S.Exact.MAX (split g at.After-index-own-column) (divided g at.In_ok-count)
-    c.reduce_rows.new.cells c.reduce_rows-2.new.cells c.reduce_rows.auto.cells
-    c.in_ok-reduce_rows.ensures.ok c.in_ok-reduce_rows-2.ensures.ok
+    on_ok_weaker c.reduce_rows-2.result
+    (after g.S.Exact.MAX (split g at.After-index-own-column) (divided g at.In_ok-count)
+    c.reduce_rows.new.cells c.reduce_rows-2.new.cells c.reduce_rows.auto.cells c.in_ok-reduce_rows.ensures.ok)
+    c.reduce_rows-2.ensures.ok
 
 pub returns-clause-wide : goal.returns-clause-wide
 returns-clause-wide g c =
     let at = goal.at.returns-clause-wide g c in
-    spot_below g.S.Exact.MAX (split g at.After-index-own-column) (divided g at.In_ok-count)
-    c.args.rows _ (omega (arith, c.requires.row_in)) c.in_ok-reduce_rows.ensures.wide
-    c.in_ok-reduce_rows-2.ensures.wide
+    let s = split g at.After-index-own-column in
+    let d = divided g at.In_ok-count in
+    let l : c.args.row ≤ c.args.rows = omega (arith, c.requires.row_in) in
+    let none = c.in_ok-reduce_rows.ensures.wide in
+    MatchResult-weaker c.reduce_rows-2.result c.reduce_rows-2.ensures.wide
+    (λ _. spot_below g.S.Exact.MAX s d c.args.rows None l none)
+    (λ e. spot_below g.S.Exact.MAX s d c.args.rows (Some e) l none)

@@ -117,3 +117,19 @@ returns-clause-wide g c =
     let end : c.loop-j.j ≡ length c.args.cells.now = omega (arith, c.loop-j-test.false, c.loop-j.auto.j-end) in
     ap (λ n. divide_spot ordered_fractions (is_too_wide g.S.Exact.MAX) n (item_value e c.args.cells.now)
     (e c.args.divisor) c.args.row) (sym end) ∙ c.loop-j.invariant.none
+
+pub bounds-marks-j : goal.bounds-marks-j
+bounds-marks-j g c = omega (arith, c.loop-j-test.true, c.requires.block.same)
+
+pub bounds-cells-j : goal.bounds-cells-j
+bounds-cells-j g c = omega (arith, c.loop-j-test.true, c.loop-j.auto.cells)
+
+pub bounds-cells-j-in-Ok : goal.bounds-cells-j-in-Ok
+bounds-cells-j-in-Ok g c = omega (arith, c.loop-j-test.true, c.loop-j.auto.cells)
+
+pub bounds-columns-count : goal.bounds-columns-count
+bounds-columns-count g c =
+    omega (arith, c.loop-j.invariant.count, c.loop-j-test.true, c.loop-j.auto.columns, c.requires.room)
+
+pub quotient-requires : goal.quotient-requires
+quotient-requires g c = c.requires.divisor

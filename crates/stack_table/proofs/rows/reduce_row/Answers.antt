@@ -211,3 +211,9 @@ returns-in-Err-difference-clause-ok g c = tt
 
 pub returns-clause-block : goal.returns-clause-block
 returns-clause-block g c = c.loop-k.invariant.block
+
+pub bounds-columns-k : goal.bounds-columns-k
+bounds-columns-k g c = c.loop-k-test.true
+
+pub bounds-cells-column : goal.bounds-cells-column
+bounds-cells-column g c = c.requires.column_in

@@ -237,3 +237,9 @@ returns-clause-wide g c =
     let end : c.loop-i.i ≡ c.args.count = omega (arith, c.loop-i-test.false, c.loop-i.auto.i-end) in
     ap (λ n. rows_spot ordered_fractions (is_too_wide g.S.Exact.MAX) n w (cell_of e w c.args.cells.now)
     (item_value e c.args.pivot.now) c.args.column c.args.first) (sym end) ∙ c.loop-i.invariant.none
+
+pub slice_bounds-reduce_row-count : goal.slice_bounds-reduce_row-count
+slice_bounds-reduce_row-count g c = omega arith
+
+pub slice_bounds-reduce_row-count-then-not-marks-start : goal.slice_bounds-reduce_row-count-then-not-marks-start
+slice_bounds-reduce_row-count-then-not-marks-start g c = omega arith

@@ -1,8 +1,9 @@
-use Rattle.std.proofs.Common.{◌≡◌, refl, sym, ap, subst, ◌∙◌, ℕ, suc, ◌+◌, ◌*◌, ◌<◌, get_or, Option, Some, None}
-use Rattle.std.proofs.Common.{cond, false, length, arith, is_some, pos}
+use Rattle.std.proofs.Common.{◌≡◌, refl, sym, ap, subst, ◌∙◌, ℕ, suc, ◌+◌, ◌*◌, ◌<◌, ◌≤◌, ◌^◌, get_or}
+use Rattle.std.proofs.Common.{Option, Some, None, cond, false, length, arith, is_some, pos}
 use Rattle.stack_rational.proofs.Common.{length_push, with_items_is, with_items, ℕ_discrete}
 use Rattle.stack_rational.proofs.Common.{ordered_fractions, first, is_too_wide, first_more, get_or_default}
 use Rattle.std.proofs.Math.Nat.{add-mul, suc-mul}
+use Rattle.std.proofs.lemmas.Nat.{mul-le}
 use Rattle.stack_table.specs.declared.problem.Column.{Column}
 use Rattle.stack_table.specs.declared.problem.Problem.{Problem as Lent}
 use Rattle.stack_table.specs.Table.{plain, width}
@@ -12,6 +13,7 @@ use Rattle.stack_table.specs.Lent.{factor_count, shape_of_problem, problem_of}
 use Rattle.stack_table.specs.WrittenTable.{first_row, row_place}
 use Rattle.stack_table.specs.Due.{AreDue}
 use Rattle.stack_table.proofs.DueRows.{none_due}
+use Rattle.stack_table.proofs.Numbers.{few_columns}
 use Rattle.stack_table.proofs.Growing.{pushed_all, earlier_cells, next_cells}
 use Rattle.stack_table.proofs.RowByRow.{empty_block, flip_is, flips_are, tells_row, tells_objective, place_is, table_is}
 use Rattle.stack_table.proofs.Refusals.{refused, out_of_memory}
@@ -222,3 +224,13 @@ returns g c =
       wide = tt;
       never_wide = λ _. tt;
     }
+
+-- a block of so few rows and columns fits
+block_fits : (n a : ℕ) → n ≤ 384 → a + n ≤ 2433 → (n + 1) * (a + n + 1) < 2 ^ 64
+block_fits n a l k = omega (arith, mul-le (n + 1) (a + n + 1) 385 2434 (omega (arith, l)) (omega (arith, k)))
+
+pub overflow_mul-size : goal.overflow_mul-size
+overflow_mul-size g c = record {
+  fits = block_fits c.args.p.now.rows c.artificial-artificial.result c.requires.rows_few
+      (few_columns c.args.p.now c.requires _ c.artificial-artificial.ensures);
+}
