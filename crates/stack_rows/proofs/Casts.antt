@@ -28,10 +28,10 @@ lesser_small k t {n = n} {o = o} {a = a} {b = b} h l s = record {
 
 -- the step of small numbers, as a goal shows it with its casts
 module _ (a b k t : ℤ) (fk : SFits w64 k) (ft : SFits w64 t) (small : AreSmall k t (nat_abs a) (nat_abs b)) where
-  left : SFits w64 (a *ℤ k)
+  pub left : SFits w64 (a *ℤ k)
   left = signed-keeps w64 (a *ℤ k) (omega (arith, unsigned_abs-mul a k, small.sum))
 
-  right : SFits w64 (t *ℤ b)
+  pub right : SFits w64 (t *ℤ b)
   right = signed-keeps w64 (t *ℤ b) (omega (arith, unsigned_abs-mul t b, small.sum))
 
   -- is that step

@@ -54,7 +54,6 @@ pub struct PlainStep {
 impl PlainStep {
     /// Of a step of numbers of at most these sizes, in a row over a denominator. Gives up where one of these, or what
     /// the step makes of it, isn't small.
-    #[tactic(auto, using(std::proofs::lemmas::Nat::le_or_l, std::proofs::lemmas::Nat::le_or_r))]
     pub fn of(factors: Factors, own: u128, other: u128, under: u128) -> Option<PlainStep>
         ensures times { IfSome result (λ p. p.times ≡ factors.times) }
         ensures less { IfSome result (λ p. p.less ≡ factors.less) }

@@ -1,4 +1,4 @@
-use Rattle.std.proofs.Common.{arith, rules, SFits, to_z-of_z}
+use Rattle.std.proofs.Common.{arith, rules, sym, ap, length, ◌∙◌, SFits, to_z-of_z}
 use Rattle.stack_rational.proofs.Common.{w128}
 use Rattle.stack_inverse.specs.Columns.{revised_own}
 use Rattle.stack_inverse.specs.RowsSeen.{columns_of}
@@ -65,3 +65,37 @@ returns-in-Err-clause-refused c = λ column hf.
     let own : SFits w128 r.under = search rules in
     rw (c.over_for.ensures.numbers, c.over_for.ensures.under, to_z-of_z own, to_z-of_z c.ranges.number, hf)
     at c.in-Err.ensures.refused
+
+pub take_small-requires-clause-width : goal.take_small-requires-clause-width
+take_small-requires-clause-width c = c.requires.pivot.width ∙ sym c.requires.width
+
+pub take-requires : goal.take-requires
+take-requires c = rw c.over_for.ensures.numbers (c.requires.pivot.width ∙ sym c.requires.width)
+
+pub step_by_cells-requires-clause-width : goal.step_by_cells-requires-clause-width
+step_by_cells-requires-clause-width c = rw c.over_for.ensures.numbers c.requires.width
+
+pub step_by_cells-requires-clause-under : goal.step_by_cells-requires-clause-under
+step_by_cells-requires-clause-under c =
+    let own : SFits w128 c.over_for.new.row.under = search rules in
+    to_z-of_z own
+
+pub step_by_cells-requires-clause-pivot_under : goal.step_by_cells-requires-clause-pivot_under
+step_by_cells-requires-clause-pivot_under c =
+    let other : SFits w128 c.args.pivot.now.row.under = search rules in
+    to_z-of_z other
+
+pub returns-in-Some-take-clause-width : goal.returns-in-Some-take-clause-width
+returns-in-Some-take-clause-width c = rw c.over_for.ensures.numbers at c.take.ensures.width
+
+pub returns-in-None-take-clause-width : goal.returns-in-None-take-clause-width
+returns-in-None-take-clause-width c = rw c.over_for.ensures.numbers at c.take.ensures.width
+
+pub returns-in-None-cell-clause-width : goal.returns-in-None-cell-clause-width
+returns-in-None-cell-clause-width c = ap length c.over_for.ensures.numbers
+
+pub returns-in-Ok-clause-width : goal.returns-in-Ok-clause-width
+returns-in-Ok-clause-width c = rw c.over_for.ensures.numbers at c.step_by_cells.ensures.width
+
+pub returns-in-Err-clause-width : goal.returns-in-Err-clause-width
+returns-in-Err-clause-width c = rw c.over_for.ensures.numbers at c.step_by_cells.ensures.width

@@ -1,7 +1,7 @@
 use Rattle.std.proofs.Common.{◌≡◌, ◌+◌, length, arith, rules, ℤ, SFits, to_z, of_z, to_z-of_z}
 use Rattle.stack_rational.proofs.Common.{w128}
 use Rattle.stack_rows.specs.RowForm.{number_at, IsQuotient}
-use Rattle.stack_rows.proofs.Written.{written_more}
+use Rattle.stack_rows.proofs.Written.{written_more, topped_before}
 use Rattle.stack_rows.proofs.row.numbers_after.Goals as goal
 
 pub returns-clause-ok : goal.returns-clause-ok
@@ -29,3 +29,14 @@ returns-clause-ok c =
       c.in_ok-numbers.ensures,
     ) in
     rw long (written_more xs x (omega arith) (omega (arith, c.divide.auto.numbers)) written here)
+
+pub returns-clause-top : goal.returns-clause-top
+returns-clause-top c = topped_before c.divide.new.numbers c.in_ok-count.count
+    (to_z w128 (of_z w128 c.in_ok-numbers.field-0)) (omega (arith, c.in_ok-count.ensures, c.divide.auto.numbers))
+    c.in_ok-divided.ensures.top
+
+pub divide-requires-clause-width : goal.divide-requires-clause-width
+divide-requires-clause-width c = rw c.as_slice-pivot.ensures.value c.requires.beside.width
+
+pub divide-requires-clause-other_jumps : goal.divide-requires-clause-other_jumps
+divide-requires-clause-other_jumps c = rw c.as_slice-pivot.ensures.value c.requires.other_jumps

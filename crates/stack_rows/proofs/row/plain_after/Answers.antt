@@ -2,7 +2,7 @@ use Rattle.std.proofs.Common.{◌≡◌, ◌+◌, length, arith, rules, ℤ, ◌
 use Rattle.stack_rational.proofs.Common.{w128}
 use Rattle.stack_rows.specs.RowForm.{number_at}
 use Rattle.stack_rows.proofs.Combined.{undivided}
-use Rattle.stack_rows.proofs.Written.{written_more}
+use Rattle.stack_rows.proofs.Written.{written_more, topped_before}
 use Rattle.stack_rows.proofs.row.plain_after.Goals as goal
 
 pub returns-clause-part : goal.returns-clause-part
@@ -27,3 +27,14 @@ returns-clause-part c =
     rw long
     (written_more c.plain_first.new.numbers x (omega arith) (omega (arith, c.plain_first.auto.numbers))
     c.in_ok-size.ensures.part step)
+
+pub plain_first-requires-clause-small : goal.plain_first-requires-clause-small
+plain_first-requires-clause-small c = λ j l. c.requires.small j (omega (arith, l, c.in_ok-count.ensures))
+
+pub returns-clause-top : goal.returns-clause-top
+returns-clause-top c = topped_before c.plain_first.new.numbers c.in_ok-count.count
+    (to_z w128 (of_z w128 c.in_ok-right.right)) (omega (arith, c.in_ok-count.ensures, c.plain_first.auto.numbers))
+    c.in_ok-size.ensures.top
+
+pub plain_first-requires-clause-count : goal.plain_first-requires-clause-count
+plain_first-requires-clause-count c = omega (arith, c.in_ok-count.ensures)

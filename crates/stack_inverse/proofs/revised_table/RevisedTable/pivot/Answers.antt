@@ -235,3 +235,48 @@ returns-clause-refused c =
     subst (λ spot. IfErr c.pivot_rows-done.result (λ e. TellsSpot e spot))
     (λ z. cells_spot ordered_fractions (is_too_wide widest) (suc m) (suc (s.plain_count z + m))
     (cells_of_rows s.given (c.as_mut_slice.ensures.value z)) c.args.row c.args.column) c.pivot_rows-done.ensures.refused
+
+pub pivot_rows-done-requires-clause-height : goal.pivot_rows-done-requires-clause-height
+pivot_rows-done-requires-clause-height c =
+    let s = c.args.self.now in
+    rw c.as_mut_slice.ensures.value s.height
+
+pub pivot_rows-done-requires-clause-widths : goal.pivot_rows-done-requires-clause-widths
+pivot_rows-done-requires-clause-widths c =
+    let s = c.args.self.now in
+    rw c.as_mut_slice.ensures.value s.widths
+
+pub pivot_rows-done-requires-clause-marked : goal.pivot_rows-done-requires-clause-marked
+pivot_rows-done-requires-clause-marked c =
+    let s = c.args.self.now in
+    rw c.as_mut_slice.ensures.value s.marked
+
+pub pivot_rows-done-requires-clause-entered : goal.pivot_rows-done-requires-clause-entered
+pivot_rows-done-requires-clause-entered c =
+    let s = c.args.self.now in
+    rw (c.as_mut_slice.ensures.value, c.as_slice.ensures.value) c.requires.entered.numbers
+
+pub pivot_rows-done-requires-clause-long : goal.pivot_rows-done-requires-clause-long
+pivot_rows-done-requires-clause-long c =
+    let s = c.args.self.now in
+    rw c.as_slice.ensures.value s.one_number
+
+pub mark_on-requires-clause-wide : goal.mark_on-requires-clause-wide
+mark_on-requires-clause-wide c =
+    let s = c.args.self.now in
+    rw (c.as_mut_slice-2.ensures.value, s.touched_long) s.places_wide
+
+pub mark_on-requires-clause-uses_wide : goal.mark_on-requires-clause-uses_wide
+mark_on-requires-clause-uses_wide c =
+    let s = c.args.self.now in
+    rw (c.as_slice-2.ensures.value, s.open_long) s.uses_wide
+
+pub mark_on-requires-clause-entered : goal.mark_on-requires-clause-entered
+mark_on-requires-clause-entered c =
+    let s = c.args.self.now in
+    rw (c.as_slice-4.ensures.value, s.one_number, s.touched_long) (omega arith)
+
+pub mark_on-requires-clause-uses_long : goal.mark_on-requires-clause-uses_long
+mark_on-requires-clause-uses_long c =
+    let s = c.args.self.now in
+    rw (c.as_slice-2.ensures.value, c.as_mut_slice-2.ensures.value) (s.uses_long ∙ sym s.places_long)

@@ -1,5 +1,5 @@
-use Rattle.std.proofs.Common.{rules, ◌*ℤ◌, ◌-ℤ◌, SFits, w64}
-use Rattle.stack_rows.proofs.Casts.{wide_cast, small_step, small_step_fits}
+use Rattle.std.proofs.Common.{rules, ◌*ℤ◌, ◌-ℤ◌, SFits, to_z-of_z, w64}
+use Rattle.stack_rows.proofs.Casts.{narrow_cast, wide_cast, left, right, small_step, small_step_fits}
 use Rattle.stack_rows.proofs.Combined.{over_one}
 use Rattle.stack_rows.proofs.step.PlainStepWay.quotient.Goals as goal
 
@@ -22,3 +22,19 @@ returns c =
     let step = a *ℤ s.times -ℤ s.less *ℤ b in
     let word = small_step_fits a b s.times s.less times less c.requires in
     rw (small_step a b s.times s.less times less c.requires, wide_cast step word) (over_one step)
+
+pub overflow_mul-result : goal.overflow_mul-result
+overflow_mul-result c =
+    let s = c.args.self.now in
+    let times : SFits w64 s.times = search rules in
+    let less : SFits w64 s.less = search rules in
+    rw (narrow_cast c.args.number c.requires.words.own, to_z-of_z times)
+    (left c.args.number c.args.other s.times s.less times less c.requires)
+
+pub overflow_mul-result-2 : goal.overflow_mul-result-2
+overflow_mul-result-2 c =
+    let s = c.args.self.now in
+    let times : SFits w64 s.times = search rules in
+    let less : SFits w64 s.less = search rules in
+    rw (narrow_cast c.args.other c.requires.words.other, to_z-of_z less)
+    (right c.args.number c.args.other s.times s.less times less c.requires)
