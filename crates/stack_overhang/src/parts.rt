@@ -6,7 +6,8 @@ ghost use Rattle.stack_model.specs.Raw.{raw_material, raw_block, raw_load, lists
 ghost use Rattle.stack_model.specs.Relisted.{coordinates, material_listed};
 ghost use Rattle.stack_overhang.specs.Bricks.{rectangle_corners, brick_name};
 ghost use Rattle.stack_overhang.specs.Built.{brick_material};
-ghost use Rattle.stack_overhang.specs.Listing.{rectangle_part, blocks_of, push_listed};
+ghost use Rattle.stack_overhang.specs.Listing.{rectangle_part, brick_block as brick_block_of, blocks_of};
+ghost use Rattle.stack_overhang.specs.Listing.{push_listed};
 
 use crate::types::Rectangle;
 use stack_model::{RawBlock, RawLoad, RawMaterial};
@@ -48,12 +49,13 @@ fn corners(alloc: Global, r: Rectangle) -> Result<Vec<Vec<i64>>, AllocError>
 pub fn materials(alloc: Global, p: i64, q: i64) -> Result<Vec<RawMaterial>, AllocError>
     ensures { IfOk result (λ v. map raw_material v.items ≡ material_listed (brick_material p q) ∷ []) }
 {
-    let mut list = Vec::new(alloc);
-    list.push(RawMaterial {
+    let material = RawMaterial {
         name: String::from_str(alloc, "brick")?,
         weight: 1,
         friction: pair(alloc, p, q)?,
-    })?;
+    };
+    let mut list = Vec::new(alloc);
+    list.push(material)?;
     Ok(list)
 }
 
@@ -77,6 +79,14 @@ fn name(alloc: Global, k: usize) -> Result<String, AllocError>
     format!(in alloc; "b{}", k + 1)
 }
 
+/// Brick `k`, from 0.
+fn brick_block(alloc: Global, k: usize, r: Rectangle) -> Result<RawBlock, AllocError>
+    requires { k < most_free }
+    ensures { IfOk result (λ b. raw_block b ≡ brick_block_of k r) }
+{
+    block(alloc, name(alloc, k)?, false, r)
+}
+
 /// The fixed body with this name, and the bricks in their order.
 pub fn blocks(
     alloc: Global,
@@ -87,10 +97,11 @@ pub fn blocks(
     requires { length bricks.now ≤ most_free }
     ensures { IfOk result (λ v. map raw_block v.items ≡ blocks_of base_name.now base bricks.now) }
 {
+    let base = block(alloc, String::from_str(alloc, base_name)?, true, base)?;
     let mut list = Vec::new(alloc);
-    list.push(block(alloc, String::from_str(alloc, base_name)?, true, base)?)?;
+    list.push(base)?;
     for (k, brick) in bricks.iter().enumerate() {
-        list.push(block(alloc, name(alloc, k)?, false, *brick)?)?;
+        list.push(brick_block(alloc, k, *brick)?)?;
     }
     Ok(list)
 }
@@ -107,12 +118,13 @@ pub fn push_right(alloc: Global, k: usize, brick: Rectangle) -> Result<Vec<RawLo
     requires { k < most_free }
     ensures { IfOk result (λ v. map raw_load v.items ≡ push_listed k brick ∷ []) }
 {
-    let mut list = Vec::new(alloc);
-    list.push(RawLoad {
+    let load = RawLoad {
         block: name(alloc, k)?,
         kind: String::from_str(alloc, "live")?,
         at: upper_left(alloc, brick)?,
         force: pair(alloc, 1, 0)?,
-    })?;
+    };
+    let mut list = Vec::new(alloc);
+    list.push(load)?;
     Ok(list)
 }
