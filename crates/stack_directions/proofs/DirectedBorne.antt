@@ -80,6 +80,23 @@ times_borne bs m l a b f h =
 abbrev stand_in : Load
 stand_in = record { body = 0; live = false; at = origin; fx = pos 0; fy = pos 0 }
 
+-- what isn't a dead load is a live one
+live_is : (b : Bool) → not b ≡ false → b ≡ true
+live_is true e = refl
+live_is false e = cc
+
+-- what is left of the first load
+pub left_first : (i j : ℕ) (m n : ℤ) (k : ℕ) (l x : Load) → not l.live ≡ false → k ≡ i → AreFactors m n
+    → x ≡ times_load (to_z w64 (of_z w64 m)) l → x ∷ [] ≡ directed_load i j m n k l
+left_first i j m n k l x live here f e =
+    let is : l.live ≡ true = live_is l.live live in
+    (λ r. e r ∷ []) ∙ (λ r. times_load (cast m (record {
+      least = omega (arith, sums, f.least_m);
+      most = omega (arith, sums, f.most_m);
+    }) r) l ∷ [])
+    ∙ (λ r. if sym is r then (if sym (eq-eqb k i here) r then times_load m l ∷ []
+    else (if nat_eq k j then times_load n l ∷ [] else [])) else l ∷ [])
+
 -- what is left of the second load
 pub left_second : (i j : ℕ) (m n z : ℤ) (k : ℕ) (l x : Load) → not l.live ≡ false → (k ≡ i → ⊥) → k ≡ j →
     AreFactors m n → x ≡ times_load (to_z w64 (of_z w64 n)) l → x ∷ [] ≡ directed_load i j m n k l
@@ -91,10 +108,6 @@ left_second i j m n z k l x live other here f e =
     }) r) l ∷ [])
     ∙ (λ r. if sym is r then (if sym (ne_eqb k i other) r then times_load m l ∷ []
     else (if sym (eq-eqb k j here) r then times_load n l ∷ [] else [])) else l ∷ [])
-  where
-    live_is : (b : Bool) → not b ≡ false → b ≡ true
-    live_is true e = refl
-    live_is false e = cc
 
 -- what is left of a load is borne, and is no more than one
 left_borne : (bs : List NamedBody) (i j : ℕ) (m n : ℤ) (k : ℕ) (l : Load) → AreFactors m n → IsBorne bs l →

@@ -1,10 +1,14 @@
 -- The reach of a greatest factor, as the code makes it.
 use Rattle.std.proofs.Common.{◌≡◌, refl, sym, ap, ◌∙◌, subst, ℕ, Option, Some, None, Result, Ok, Err, Bool, true, false}
 use Rattle.std.proofs.Common.{IfOk, if◌then◌else◌, length, arith, w64, to_z, of_z}
+use Rattle.std.proofs.lemmas.Int.{ints}
 use lib.IntN.{ℤ, pos, negsuc, neg_ℤ, ◌*ℤ◌}
 use Rattle.stack_equilibrium.proofs.Common.{CertificateValue, ForcesValue, Fraction, MotionValue, Surveyed, Whole}
-use Rattle.stack_equilibrium.proofs.Common.{collapses, frees_of, greatest, live_power_of, move_at, over, scene_of}
+use Rattle.stack_equilibrium.proofs.Common.{IsFitting, collapses, forces_view, frees_of, greatest, live_power_of}
+use Rattle.stack_equilibrium.proofs.Common.{move_at, over, scene_of}
 use Rattle.stack_equilibrium.proofs.Common.{stands, sums, unbounded, whole, written_power}
+use Rattle.stack_certificate.specs.declared.types.Certificate.TheVariants.{Unbounded}
+use Rattle.stack_certificate.specs.declared.types.Forces.{Forces}
 use Rattle.stack_equilibrium.specs.declared.types.PowerWide.{PowerWide}
 use Rattle.stack_rational.specs.Laws.{widest}
 use Rattle.stack_algebra.specs.IntegerOrder.{◌≼◌}
@@ -60,7 +64,25 @@ half_told v y p w e h = h ∙ ap (λ x. live_power_of (scene_of x) (move_at x y)
 pub factor_cast : (z : ℤ) → negsuc 999 ≼ z → z ≼ pos 1000 → to_z w64 (of_z w64 z) ≡ z
 factor_cast z a b = cast z (record { least = omega (arith, sums); most = omega (arith, sums) })
 
+-- a factor fits, as the code widens it
+pub factor_fits : (z : ℤ) (w : Whole) → w ≡ whole (to_z w64 (of_z w64 z)) → negsuc 999 ≼ z → z ≼ pos 1000 →
+    IsFitting w.value
+factor_fits z w e a b = subst IsFitting (sym (ap (λ (x : Whole). x.value) e ∙ factor_cast z a b))
+    (omega (arith, ints))
+
+-- a power on the motion, as the code makes it
+pub power_told : (v w : Surveyed) (y : MotionValue) (r o : Result ℤ PowerWide) → v ≡ w → r ≡ written_power Live v y →
+    r ≡ o → written_power Live w y ≡ o
+power_told v w y r o e told is = ap (λ x. written_power Live x y) (sym e) ∙ sym told ∙ is
+
 module _ (s : Surveyed) (i j : ℕ) where
+  -- what comes of a greatest factor, by the numbers of it that may be too wide
+  pub bounded_by : (m n : ℤ) (f : ForcesValue) (y : MotionValue) {a b : Result ℤ PowerWide} {o : Option PointValue} →
+      written_power Live (directed_survey s i j (pos 1) (pos 0)) y ≡ a →
+      written_power Live (directed_survey s i j (pos 0) (pos 1)) y ≡ b → point_made m n f ≡ o →
+      bounded s i j m n f y ≡ unless_wide a b o (reach_of s i j m n (greatest f y))
+  bounded_by m n f y p q x = λ t. unless_wide (p t) (q t) (x t) (reach_of s i j m n (greatest f y))
+
   -- the reach of a greatest factor, where no number of it is too wide
   pub bounded_is : (m n : ℤ) (f : ForcesValue) (y : MotionValue) (m' n' p q r p' q' r' : ℤ) (x : PointValue) →
       m' ≡ m → n' ≡ n → p' ≡ p → q' ≡ q → r' ≡ r →
@@ -75,7 +97,7 @@ module _ (s : Surveyed) (i j : ℕ) where
         half = Some (p', q', r');
       })
   bounded_is m n f y m' n' p q r p' q' r' x em en ep eq er wp wq wx hp hq hr =
-      (λ t. unless_wide (wp t) (wq t) (wx t) (reach_of s i j m n (greatest f y)))
+      bounded_by m n f y wp wq wx
       ∙ (λ t. reaches (record {
         m = sym em t;
         n = sym en t;
@@ -104,6 +126,17 @@ module _ (s : Surveyed) (i j : ℕ) where
       record { holds = k.holds; form = tt; stands = k.dead_loads; is = refl }
   is_reach m n v (stands f) e h is = absurd is
   is_reach m n v (collapses y) e h is = absurd is
+
+  -- a reach without limit is judged
+  pub unbounded_holds : (m n m' n' : ℤ) (v : Surveyed) (f r : Forces) → m' ≡ m → n' ≡ n →
+      v ≡ directed_survey s i j m n → IsJudged Live v (unbounded (forces_view f) (forces_view r)) →
+      AnswerHolds s i j (Reaches (record { m = m'; n = n'; certificate = Unbounded f r; point = None; half = None }))
+  unbounded_holds m n m' n' v f r em en e h =
+      let c = unbounded (forces_view f) (forces_view r) in
+      let at : v ≡ directed_survey s i j m' n' = e ∙ (λ t. directed_survey s i j (sym em t) (sym en t)) in (
+        is_reach m' n' v c at h tt,
+        record { judged = subst (λ x. IsJudged Live x c) at h; point_fits = tt; half_fits = tt },
+      )
 
   -- a reach of a greatest factor is judged of it too, where its numbers fit
   answer_holds : (m n : ℤ) (f : ForcesValue) (y : MotionValue) (t : DirectionAnswer) →

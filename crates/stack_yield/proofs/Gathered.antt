@@ -1,8 +1,9 @@
 -- Directions one after the other.
 use Rattle.std.proofs.Common.{◌≡◌, refl, sym, ap, ◌∙◌, subst, ℕ, suc, ◌+◌, ◌<◌, ◌≤◌, List, [], ◌∷◌, ◌++◌, length}
 use Rattle.std.proofs.Common.{get_or, map, drop, Result, Ok, Err, append_assoc, arith, take, Option, Some, None}
-use Rattle.std.proofs.Common.{add-one, IfOk}
+use Rattle.std.proofs.Common.{add-one, append-nil, IfOk}
 use Rattle.std.specs.List.{AllByRecursion}
+use Rattle.std.proofs.Math.ListN.{drop_of_length-le}
 use Rattle.std.proofs.Math.Seq.{drop-cons}
 use Rattle.std.proofs.lemmas.List.{map-append, take_more, take_all}
 use lib.IntN.{ℤ}
@@ -178,6 +179,13 @@ module _ (s : Surveyed) (i j budget : ℕ) where
       RegionTells s i j ds (points rs)
   all_told law proper pair ds rs k some ended g =
       law s i j ds rs proper pair (omega (arith, some, ended, g.counted)) (g.directions ∙ take_all k ds ended) g.each
+
+  -- each direction has a reach, and the region is of these
+  pub all_gathered : (ds : List (ℤ × ℤ)) (rs : List ReachValue) (k : ℕ) → length ds ≤ k → IsGathered ds rs k →
+      outcomes s i j budget ds ≡ answered (points rs)
+  all_gathered ds rs k ended g = g.outcomes
+      ∙ ap (λ xs. onto rs (outcomes_from s i j budget k xs)) (drop_of_length-le ds ended)
+      ∙ ap (λ xs. answered (points xs)) (append-nil rs)
 
   -- a direction that is refused is the first that has no reach
   refuses_first : (ds : List (ℤ × ℤ)) (e : RegionError) → Regions (Err e) s i j budget ds →

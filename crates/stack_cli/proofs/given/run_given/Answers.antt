@@ -4,6 +4,9 @@ use Rattle.stack_said.proofs.Returned.{none_works, memory_works}
 use Rattle.stack_said.proofs.Running.{works_run}
 use Rattle.stack_cli.proofs.given.run_given.Goals as goal
 
+pub returns-in-Words-clause-runs : goal.returns-in-Words-clause-runs
+returns-in-Words-clause-runs g c = rw c.in-Words.is (rw c.as_slice.ensures.value at c.run.ensures)
+
 pub returns-in-Unreadable-clause-runs : goal.returns-in-Unreadable-clause-runs
 returns-in-Unreadable-clause-runs g c = let d = c.deliver.ensures in
     rw c.in-Unreadable.is (works_run c.printed_is_accepted.ensures.accepted

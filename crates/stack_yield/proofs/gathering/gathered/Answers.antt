@@ -1,7 +1,22 @@
-use Rattle.std.proofs.Common.{◌<◌, length, get_or, arith}
+use Rattle.std.proofs.Common.{sym, ap, subst, ◌∙◌, ◌<◌, length, get_or, arith}
+use lib.IntN.{pos}
+use Rattle.stack_pairs.specs.Directed.{ArePair, directed_survey}
+use Rattle.stack_directions.specs.declared.directing.Towards.{Towards}
 use Rattle.stack_yield.proofs.Gathered.{one_more, outcome_told, holds_told, reached, reach_holds, fall_holds, fallen}
-use Rattle.stack_yield.proofs.Gathered.{stopped, all_told}
+use Rattle.stack_yield.proofs.Gathered.{stopped, all_told, all_gathered}
 use Rattle.stack_yield.proofs.gathering.gathered.Goals as goal
+
+pub judge_direction-requires-clause-pair : goal.judge_direction-requires-clause-pair
+judge_direction-requires-clause-pair c = subst (λ (t : Towards). ArePair c.args.s.now.structure t.i t.j)
+    (sym c.towards-t.ensures) c.requires.pair
+
+pub judge_direction-requires-clause-first : goal.judge_direction-requires-clause-first
+judge_direction-requires-clause-first c = c.requires.first
+    ∙ ap (λ (t : Towards). directed_survey c.args.s.now t.i t.j (pos 1) (pos 0)) (sym c.towards-t.ensures)
+
+pub judge_direction-requires-clause-second : goal.judge_direction-requires-clause-second
+judge_direction-requires-clause-second c = c.requires.second
+    ∙ ap (λ (t : Towards). directed_survey c.args.s.now t.i t.j (pos 0) (pos 1)) (sym c.towards-t.ensures)
 
 pub returns-in-Ok-Falls-clause-regions : goal.returns-in-Ok-Falls-clause-regions
 returns-in-Ok-Falls-clause-regions c =
@@ -43,6 +58,10 @@ loop-k-preserved c =
     (holds_told c.args.s.now c.args.pair.i c.args.pair.j c.args.budget _ c.towards-t.result c.judge_direction.result
     c.towards-t.ensures c.judge_direction.ensures.holds) c.in-Ok-Reaches.is c.in-Ok-Reaches.field-0-is)
     c.in_ok-push-in-Ok-Reaches.ensures.items
+
+pub returns-clause-regions : goal.returns-clause-regions
+returns-clause-regions c = all_gathered c.args.s.now c.args.pair.i c.args.pair.j c.args.budget c.args.dirs.now _
+    c.loop-k.k (omega (arith, c.loop-k-test.false, c.loop-k.auto.k-end)) c.loop-k.invariant
 
 pub returns-clause-tells : goal.returns-clause-tells
 returns-clause-tells c = all_told c.args.s.now c.args.pair.i c.args.pair.j c.args.budget c.reach_laws.ensures.regions

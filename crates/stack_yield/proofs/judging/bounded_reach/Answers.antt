@@ -1,10 +1,11 @@
-use Rattle.std.proofs.Common.{◌≡◌, sym, ap, ◌∙◌, Ok}
+use Rattle.std.proofs.Common.{◌≡◌, refl, sym, ap, ◌∙◌, Ok}
 use lib.IntN.{pos}
 use Rattle.stack_equilibrium.proofs.Common.{ForcesValue, MotionValue, Surveyed, forces_view, motion_view, written_power}
 use Rattle.stack_equilibrium.specs.declared.types.Question.TheVariants.{Live}
 use Rattle.stack_pairs.specs.Directed.{directed_survey}
 use Rattle.stack_yield.proofs.Accepted.{power_fits}
 use Rattle.stack_yield.proofs.BoundedReaches.{bounded_is, moves_for, less_dead_is, point_told, half_told, factor_cast}
+use Rattle.stack_yield.proofs.BoundedReaches.{bounded_by, factor_fits, power_told}
 use Rattle.stack_yield.proofs.FittingReaches.{point_fits, half_fits}
 use Rattle.stack_directions.proofs.Points.{fitting_cast}
 use Rattle.stack_yield.proofs.judging.bounded_reach.Goals as goal
@@ -29,11 +30,9 @@ returns-clause-outcome c =
     let vp : Surveyed = directed_survey c.args.s.now c.args.t.i c.args.t.j (pos 1) (pos 0) in
     let vq : Surveyed = directed_survey c.args.s.now c.args.t.i c.args.t.j (pos 0) (pos 1) in
     let wp : written_power Live vp y ≡ Ok c.in-Ok.p =
-    ap (λ (v : Surveyed). written_power Live v y) (sym c.requires.first)
-    ∙ sym c.power.ensures.written ∙ c.in-Ok.is in
+    power_told _ _ y _ _ c.requires.first c.power.ensures.written c.in-Ok.is in
     let wq : written_power Live vq y ≡ Ok c.in-Ok-power.q =
-    ap (λ (v : Surveyed). written_power Live v y) (sym c.requires.second)
-    ∙ sym c.power-2.ensures.written ∙ c.in-Ok-power.is in
+    power_told _ _ y _ _ c.requires.second c.power-2.ensures.written c.in-Ok-power.is in
     bounded_is c.args.s.now c.args.t.i c.args.t.j c.args.t.m c.args.t.n f y _ _ c.in-Ok.p c.in-Ok-power.q
     c.dead_power-r.result _ _ _ c.in-Some.at em en
     (fitting_cast c.in-Ok.p (power_fits Live vp y c.in-Ok.p wp))
@@ -59,3 +58,35 @@ returns-clause-fits c =
       half_fits c.in-Ok.p c.in-Ok-power.q c.dead_power-r.result _ _ _ (fitting_cast c.in-Ok.p fp)
           (fitting_cast c.in-Ok-power.q fq) (fitting_cast c.dead_power-r.result fr) fp fq fr,
     )
+
+pub point-requires-clause-first : goal.point-requires-clause-first
+point-requires-clause-first c = let k = c.requires.factors in
+    factor_fits c.args.t.m c.widened.result c.widened.ensures k.least_m k.most_m
+
+pub point-requires-clause-second : goal.point-requires-clause-second
+point-requires-clause-second c = let k = c.requires.factors in
+    factor_fits c.args.t.n c.widened-2.result c.widened-2.ensures k.least_n k.most_n
+
+pub returns-in_default-clause-outcome : goal.returns-in_default-clause-outcome
+returns-in_default-clause-outcome c =
+    let y : MotionValue = motion_view c.args.motion in
+    bounded_by c.args.s.now c.args.t.i c.args.t.j c.args.t.m c.args.t.n (forces_view c.args.forces) y
+    (power_told _ _ y _ _ c.requires.first c.power.ensures.written c.in_default.is) refl refl
+
+pub returns-in_default-power-clause-outcome : goal.returns-in_default-power-clause-outcome
+returns-in_default-power-clause-outcome c =
+    let y : MotionValue = motion_view c.args.motion in
+    bounded_by c.args.s.now c.args.t.i c.args.t.j c.args.t.m c.args.t.n (forces_view c.args.forces) y
+    (power_told _ _ y _ _ c.requires.first c.power.ensures.written c.in-Ok.is)
+    (power_told _ _ y _ _ c.requires.second c.power-2.ensures.written c.in_default-power.is) refl
+
+pub returns-in_default-point-clause-outcome : goal.returns-in_default-point-clause-outcome
+returns-in_default-point-clause-outcome c =
+    let y : MotionValue = motion_view c.args.motion in
+    let k = c.requires.factors in
+    bounded_by c.args.s.now c.args.t.i c.args.t.j c.args.t.m c.args.t.n (forces_view c.args.forces) y
+    (power_told _ _ y _ _ c.requires.first c.power.ensures.written c.in-Ok.is)
+    (power_told _ _ y _ _ c.requires.second c.power-2.ensures.written c.in-Ok-power.is)
+    (point_told c.args.t.m c.args.t.n _ _ (forces_view c.args.forces) c.widened.result c.widened-2.result c.point.result
+    _ c.widened.ensures (factor_cast c.args.t.m k.least_m k.most_m) c.widened-2.ensures
+    (factor_cast c.args.t.n k.least_n k.most_n) c.point.ensures c.in_default-point.is)

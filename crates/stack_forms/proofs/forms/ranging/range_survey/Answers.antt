@@ -46,3 +46,6 @@ returns-in-Err-NoLive c holds = ends_refusing holds NoLive (range_lacks c.args.s
 
 pub returns-in-Err : goal.returns-in-Err
 returns-in-Err c holds = wanting holds (range_told c.args.budget c.args.survey.now)
+
+pub returns-in-Err-Memory : goal.returns-in-Err-Memory
+returns-in-Err-Memory c holds = wanting holds (range_told c.args.budget c.args.survey.now)

@@ -3,8 +3,9 @@ use Rattle.stack_equilibrium.specs.declared.types.Question.TheVariants.{Live}
 use Rattle.stack_certificate.specs.Certificate.{certificate_view}
 use Rattle.stack_judge.specs.Judgement.{Judges}
 use Rattle.stack_lines.specs.declared.refusal.Refusal.TheVariants.{Spent}
-use Rattle.stack_work.proofs.Common.{AnswersDue, default_budget, faulty, gives, over_budget, sample_step}
+use Rattle.stack_work.proofs.Common.{AnswersDue, default_budget, faulty, gives, over_budget, sample_step, sampled}
 use Rattle.stack_work.specs.Answers.{summary}
+use Rattle.stack_work.proofs.Ways.{wanting}
 use Rattle.stack_work.proofs.OneStep.{done_alone, ends_refusing}
 use Rattle.stack_forms.proofs.forms.sampling.sample_survey.Goals as goal
 
@@ -26,3 +27,6 @@ returns-in-Err-Spent c holds =
     c.in-Err-Spent.ensures.judges in
     ends_refusing holds (Spent c.in-Err-Spent.budget) (ap (sample_step c.args.number c.args.survey.now) h.1)
     (inl (ap (λ n. faulty (over_budget n)) h.2))
+
+pub returns-in-Err-Memory : goal.returns-in-Err-Memory
+returns-in-Err-Memory c holds = wanting holds (sampled c.args.number c.args.survey.now)
