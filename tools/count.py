@@ -16,10 +16,11 @@ columns. `faults`: rows and made by the line on standard error, without numbers 
 examples/ by folder. `random`: the tests of tools/test_*.py that draw models, walls or words at random, with how many
 they draw, where that is a number in a loop of the test. `refusals`: the edits that a log of `rt ci` or `rt must-fail`
 tells of, by where the prover refused them. A refusal at a clause, at an invariant or at the condition of a call points
-to what the edit means. One at a written proof may, or the proof only no longer fits. `plants`: the wrong bodies that
-`rt plant --all` made, crate by crate, and what came of them: refused at a clause or an invariant; the same as the right
-body, by the contract; proved; refused only at the condition of a call; not judged. After that, why some weren't judged.
-A function is untried if none of its bodies could be judged.
+to what the edit means. One at a written proof may, or the proof only no longer fits. The last columns tell how far the
+prover came: to values at which its goal is false, to a limit of its search, or to the end of it without a proof.
+`plants`: the wrong bodies that `rt plant --all` made, crate by crate, and what came of them: refused at a clause or an
+invariant; the same as the right body, by the contract; proved; refused only at the condition of a call; not judged.
+After that, why some weren't judged. A function is untried if none of its bodies could be judged.
 
 All else is read off the text. Python 3.11 or later.
 """
@@ -189,6 +190,8 @@ REFUSED = "refused, as it must be"
 KINDS = (("by names alone", r" \(only because"), ("by a limit of the prover", r" \(only by a limit"),
          ("at a clause", "what the function ensures"), ("at an invariant", "invariant"),
          ("at the condition of a call", "requires"), ("at a written proof", r": \./proofs/"))
+HOW = ("shown false", "; the facts"), ("limit of search", "; `search`")  # rt cuts a long line off behind these
+NO_PROOF = "no proof"
 
 
 def kind_of(reason: str) -> str:
@@ -198,11 +201,19 @@ def kind_of(reason: str) -> str:
     return next((kind for kind, pattern in KINDS if re.search(pattern, reason)), "elsewhere")
 
 
+def how_of(reason: str) -> str:
+    """How far the refusal of an edit goes: to values at which it is false, or only to a search without a proof."""
+    return next((how for how, pattern in HOW if pattern in reason), NO_PROOF)
+
+
 def refusals(name: str) -> Iterator[str]:
     reasons = [line.split(REFUSED, 1)[1] for line in text_of(Path(name)).splitlines()
                if "must-fail " in line and REFUSED in line]
-    found = Counter(map(kind_of, reasons))
-    return table(("refused", "edits"), [(kind, found[kind]) for kind in (*dict(KINDS), "elsewhere") if found[kind]])
+    found = Counter((kind_of(reason), how_of(reason)) for reason in reasons)
+    hows = [*dict(HOW), NO_PROOF]
+    kinds = [kind for kind in (*dict(KINDS), "elsewhere") if any(found[kind, how] for how in hows)]
+    rows = [[kind, sum(found[kind, how] for how in hows), *(found[kind, how] for how in hows)] for kind in kinds]
+    return table(("refused", "edits", *hows), rows)
 
 
 # Wrong bodies

@@ -78,16 +78,24 @@ class Counts(Clones):
             self.assertEqual(count.fault_of(line), fault)
 
     def test_refusals(self) -> None:
-        # a line of another kind isn't counted; what stands in a written proof comes before the words in it
+        # a line of another kind isn't counted; what stands in a written proof comes before the words in it; one goal is
+        # shown false, and one search met a limit
         said = "rt: must-fail stack_a/b.edit: refused, as it must be"
         self.put("log", "\n".join((
             f"{said}: note: src/a.rt:1:1: it is not proved that what the function ensures holds when it returns (`x`)",
             f"{said}: ./proofs/f/Answers.antt:5:13: error: `g-requires`: as printed, the two types differ",
-            f"{said}: note: src/a.rt:5:9: it is not proved that the invariant of the loop holds (`loop-i-init`)",
+            f"{said}: note: src/a.rt:5:9: it is not proved that the invariant of the loop holds (`loop-i-init`); the "
+            "facts known there allow values at which this goal is fal",
+            f"{said}: note: src/a.rt:7:1: it is not proved that what the function ensures holds when it returns (`y`); "
+            "`search` gave up at one of its limits",
             f"{said} (only by a limit of the prover, which gave no verdict)", "rt: stack_a proved")))
-        self.assertEqual([line.split() for line in count.refusals(str(self.top / "log"))], [
-            ["refused", "edits"], ["by", "a", "limit", "of", "the", "prover", "1"], ["at", "a", "clause", "1"],
-            ["at", "an", "invariant", "1"], ["at", "a", "written", "proof", "1"], ["together", "4"]])
+        self.assertEqual(list(count.refusals(str(self.top / "log"))), [
+            "refused                   edits  shown false  limit of search  no proof",
+            "by a limit of the prover      1            0                0         1",
+            "at a clause                   2            0                1         1",
+            "at an invariant               1            1                0         0",
+            "at a written proof            1            0                0         1",
+            "together                      5            1                1         3"])
 
     def test_plants(self) -> None:
         # two crates of one log each; the same body is tried once, and a note isn't counted
