@@ -1,7 +1,7 @@
 //! The program over standard output and standard error.
 
 ghost use Rattle.std.specs.Prelude.{◌≡◌};
-ghost use Rattle.stack_outside.specs.Seen.{seen_shelf, seen_untold};
+ghost use Rattle.stack_outside.specs.Seen.{seen_shelf, seen_counted};
 ghost use Rattle.stack_cli.specs.Words.{form_of_given, AreWordsAfterName};
 ghost use Rattle.stack_said.specs.Runs.{Runs};
 
@@ -35,7 +35,8 @@ pub fn run_standard<F: Shelf>(
     err: &mut FaultSink,
 ) -> u8
     ensures { Runs result (form_of_given given) (seen_shelf F.Shelf shelf.old shelf.new)
-        (seen_untold out.old.faults out.new.faults) (seen_untold err.old.faults err.new.faults) }
+        (seen_counted out.old.sink.faults out.new.sink.faults out.old.calls out.new.calls)
+        (seen_counted err.old.sink.faults err.new.sink.faults err.old.calls err.new.calls) }
 {
     run_given(alloc, given, shelf, out, err)
 }

@@ -9,7 +9,6 @@ use Rattle.std.proofs.lemmas.List.{map-append, take_more, get_or-map, length-map
 use Rattle.std.proofs.lemmas.List.Folds.{fold-map}
 use Rattle.stack_model.specs.Content.{is_new, number_of}
 use Rattle.stack_model.proofs.Limited.{number_below, named}
-use Rattle.stack_model.proofs.Numbering.{within}
 
 pub not_not : (b : Bool) → not (not b) ≡ b
 not_not true = refl
@@ -52,6 +51,23 @@ pub seen : {X : Type 0} (f : X → List ℕ) (name : List ℕ) (xs : List X) (na
     → names ≡ map f xs → list_any (λ x. bytes_eq name (f x)) xs ≡ not (is_new name names)
 seen f name xs names h = sym (any-map (bytes_eq name) f xs) ∙ ap (list_any (bytes_eq name)) (sym h)
     ∙ sym (not_not (list_any (bytes_eq name) names))
+
+-- a position is there where some item passes
+shift : (n m : ℕ) → nat_lt (1 + n) (suc m) ≡ nat_lt n m
+shift n m = go (nat_lt n m) refl
+  where
+    go : (b : Bool) → nat_lt n m ≡ b → nat_lt (1 + n) (suc m) ≡ b
+    go true e = lt-ltb (1 + n) (suc m) (omega (arith, ltb-true n m e))
+    go false e = le-ltb (1 + n) (suc m) (omega (arith, ltb-false n m e))
+
+within : {X : Type 0} (p : X → Bool) (xs : List X) → nat_lt (position_or_len p xs) (length xs) ≡ list_any p xs
+within p [] = refl
+within p (x ∷ xs) = go (p x) (within p xs)
+  where
+    go : (b : Bool) → nat_lt (position_or_len p xs) (length xs) ≡ list_any p xs
+        → nat_lt (cond (not b) (1 + position_or_len p xs) 0) (suc (length xs)) ≡ (b || list_any p xs)
+    go true h = lt-ltb 0 (suc (length xs)) (omega arith)
+    go false h = shift (position_or_len p xs) (length xs) ∙ h
 
 none_where : (b : Bool) (n : ℕ) → not b ≡ is_none (cond b (Some n) None)
 none_where true n = refl

@@ -5,7 +5,7 @@ ghost use Rattle.stack_frame.specs.Cones.{IsCoefficient, IsReduced, IsLesser, co
 ghost use Rattle.stack_frame.specs.Admitted.{IsAdmitted, IsTestTooWide, written_admission, written_test};
 
 use crate::divisor::common_divisor;
-use stack_whole::{Whole, Wide};
+use stack_whole::{Whole, Wide as ConeWide};
 use std::marker::Model;
 
 /// A coefficient of friction as it is written, `p` over `q`.
@@ -52,9 +52,9 @@ impl Cone {
     }
 
     /// Whether a force with the part `a` along the normal and the part `b` along the tangent pushes and stays
-    /// within the cone: `a >= 0`, and `q` times the size of `b` is at most `p` times `a`. `Wide` exactly where
+    /// within the cone: `a >= 0`, and `q` times the size of `b` is at most `p` times `a`. `ConeWide` exactly where
     /// `a >= 0` and `p` times `a`, the size of `b` or `q` times that size is more than 2^127 - 1 in size.
-    pub fn admits(self, a: Whole, b: Whole) -> Result<bool, Wide>
+    pub fn admits(self, a: Whole, b: Whole) -> Result<bool, ConeWide>
         ensures value { result ≡ written_admission self a.value b.value }
         ensures admits { IfOk result (λ holds. IsTrue holds ↔ IsAdmitted self a.value b.value) }
         ensures wide { IsErr result ↔ IsTestTooWide self a.value b.value }
@@ -65,9 +65,9 @@ impl Cone {
         self.holds(a, b)
     }
 
-    /// Whether a force that pushes stays within the cone. `Wide` as `admits`.
+    /// Whether a force that pushes stays within the cone. `ConeWide` as `admits`.
     #[tactic(auto, unfolding(crate::specs::Admitted::written_test))]
-    fn holds(self, a: Whole, b: Whole) -> Result<bool, Wide>
+    fn holds(self, a: Whole, b: Whole) -> Result<bool, ConeWide>
         ensures { result ≡ written_test self a.value b.value }
     {
         let most = Whole::widened(self.p).product(a)?;

@@ -17,3 +17,4 @@ mod laws;
 pub use cone::{Coefficient, Cone, cone_of};
 pub use frame::{Frame, frame_of};
 pub use laws::{one_cone, one_frame, wide_by_products};
+pub use stack_whole::Wide as ConeWide;

@@ -16,20 +16,22 @@ pub fits_at : (n d r e f k t : ℤ) {w : ℤ} → pos 0 ≺ d → pos 0 ≺ e �
 fits_at n d r e f k t hd he hk c h = step_none widest (λ _. n) (λ _. r) d e f k t (nat_abs n) (nat_abs r) hd he hk c
     (λ _. omega arith) (λ _. omega arith) h.fits (subst (λ z. nat_abs z ≤ nat_abs widest) h.under h.small)
 
+-- the cell that a step makes is what it makes of the numbers, over the denominator of the step
+pub told_cell : (n d r e f k t : ℤ) → pos 0 ≺ d → pos 0 ≺ e → pos 0 ≺ k → f *ℤ k ≡ t *ℤ e → (z : Fraction) →
+    z ≡ reduced ordered_fractions (λ _. over n d) (λ _. over r e) (over f d) 0 →
+    z.num *ℤ (d *ℤ k) ≡ (n *ℤ k -ℤ t *ℤ r) *ℤ pos z.den
+told_cell n d r e f k t hd he hk c z is =
+    subst (λ (x : Fraction). x.num *ℤ (d *ℤ k) ≡ (n *ℤ k -ℤ t *ℤ r) *ℤ pos x.den)
+    (step_cell n f d r e k t hd he hk c ∙ sym is) (over-is (n *ℤ k -ℤ t *ℤ r) (d *ℤ k) (mul_pos d k hd hk)).cross
+
 -- the number of a cell over a multiple of its denominator
 pub remade : (n d r e f : ℤ) → pos 0 ≺ d → pos 0 ≺ e → (z : Fraction) →
     z ≡ reduced ordered_fractions (λ _. over n d) (λ _. over r e) (over f d) 0 → (part common : ℤ) →
     part *ℤ pos z.den ≡ common → part *ℤ z.num *ℤ (d *ℤ e) ≡ (n *ℤ e -ℤ f *ℤ r) *ℤ common
-remade n d r e f hd he z is part common h = scaled z.num (pos z.den) (n *ℤ e -ℤ f *ℤ r) (d *ℤ e) part cross
+remade n d r e f hd he z is part common h = scaled z.num (pos z.den) (n *ℤ e -ℤ f *ℤ r) (d *ℤ e) part
+    (told_cell n d r e f e f hd he he refl z is)
     ∙ ap (λ x. (n *ℤ e -ℤ f *ℤ r) *ℤ x) h
   where
-    same : over (n *ℤ e -ℤ f *ℤ r) (d *ℤ e) ≡ z
-    same = step_cell n f d r e e f hd he he refl ∙ sym is
-
-    cross : z.num *ℤ (d *ℤ e) ≡ (n *ℤ e -ℤ f *ℤ r) *ℤ pos z.den
-    cross = subst (λ (x : Fraction). x.num *ℤ (d *ℤ e) ≡ (n *ℤ e -ℤ f *ℤ r) *ℤ pos x.den) same
-        (over-is (n *ℤ e -ℤ f *ℤ r) (d *ℤ e) (mul_pos d e hd he)).cross
-
     scaled : (a b n w p : ℤ) → a *ℤ w ≡ n *ℤ b → p *ℤ a *ℤ w ≡ n *ℤ (p *ℤ b)
     scaled a b n w p h = left a p w ∙ ap (λ x. x *ℤ p) h ∙ right n b p
       where

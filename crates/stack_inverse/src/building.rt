@@ -14,6 +14,7 @@ use crate::first::First;
 use crate::given::Given;
 use crate::making::{larger, top_of};
 use crate::stops::NoTable;
+use num_traits::{CheckedAdd, CheckedNeg, CheckedSub};
 use stack_rows::word;
 use stack_table::{Entry, Problem};
 use std::alloc::Global;
@@ -24,7 +25,7 @@ pub fn turned(right: &[i128], row: usize, number: i128) -> Option<i128>
     ensures { IfSome result (λ r. r ≡ turned (flips right.now row) number) }
 {
     if right[row] < 0 {
-        number.checked_neg()
+        CheckedNeg::checked_neg(&number)
     } else {
         Some(number)
     }
@@ -97,7 +98,7 @@ fn sizes_of(cells: &[Cell]) -> Option<u128>
 {
     let mut sum: u128 = 0;
     for cell in cells {
-        sum = sum.checked_add(u128::from(cell.value.unsigned_abs()))?;
+        sum = CheckedAdd::checked_add(&sum, &u128::from(cell.value.unsigned_abs()))?;
     }
     Some(sum)
 }
@@ -120,7 +121,7 @@ fn less_cells(cells: &[Cell]) -> Option<i128>
 {
     let mut rest: i128 = 0;
     for cell in cells {
-        rest = rest.checked_sub(cell.value as i128)?;
+        rest = CheckedSub::checked_sub(&rest, &(cell.value as i128))?;
     }
     Some(rest)
 }

@@ -12,6 +12,7 @@ use crate::objective::set_only;
 use crate::pivoting::put_row;
 use crate::row::TableRow;
 use crate::stops::NoTable;
+use num_traits::CheckedSub;
 use stack_rows::Row;
 use std::alloc::Global;
 
@@ -52,7 +53,7 @@ fn put_first_rows(rows: &mut [TableRow], numbers: &mut [i128], right: &[i128]) -
 {
     let mut rest: i128 = 0;
     for i in 0..right.len() {
-        rest = rest.checked_sub(put_first_row(rows, numbers, right, i)?)?;
+        rest = CheckedSub::checked_sub(&rest, &put_first_row(rows, numbers, right, i)?)?;
     }
     Some(rest)
 }

@@ -17,13 +17,14 @@ use crate::first::First;
 use crate::given::Given;
 use crate::marks::Marks;
 use crate::row::TableRow;
+use num_traits::CheckedAdd;
 use stack_rows::{product, product_of, size_product, whole_product};
 
 /// A sum and the product of a number and a word.
 fn added(sum: i128, number: i128, by: i64) -> Option<i128>
     ensures { IfSome result (λ r. r ≡ sum +ℤ number *ℤ by) }
 {
-    sum.checked_add(product(number, by)?)
+    CheckedAdd::checked_add(&sum, &product(number, by)?)
 }
 
 /// The product of a number that is a word and a word.
@@ -92,7 +93,7 @@ pub fn number_of(given: &Given, row: &TableRow, i: usize, j: usize) -> Option<i1
     let cells = given.first.columns[j].cells.as_slice();
     let numbers = row.row.numbers.as_slice();
     if row.row.top <= i64::MAX as u128 && given.first.top <= NARROW {
-        own.checked_add(sum_words(cells, numbers)?)
+        CheckedAdd::checked_add(&own, &sum_words(cells, numbers)?)
     } else {
         sum_over(cells, numbers, own)
     }
@@ -196,7 +197,7 @@ pub fn whole_top(
 {
     let combined = size_product(top, first.top)?;
     let own = size_product(under.unsigned_abs(), own_top)?;
-    let both = combined.checked_add(own)?;
+    let both = CheckedAdd::checked_add(&combined, &own)?;
     Some(larger(both, numbers[first.rows].unsigned_abs()))
 }
 

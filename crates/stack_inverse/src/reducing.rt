@@ -1,6 +1,6 @@
 //! A row step: the pivot row times a row's cell in the pivot's column is taken from the row.
 
-ghost use Rattle.std.specs.Prelude.{◌≡◌, ℕ, suc, ◌*ℤ◌, pos, true, false, None, length, OnSome, OnOk, IfErr};
+ghost use Rattle.std.specs.Prelude.{◌≡◌, ℕ, suc, ◌≤◌, ◌*ℤ◌, pos, true, false, None, length, OnSome, OnOk, IfErr};
 ghost use Rattle.stack_algebra.proofs.Over.{over};
 ghost use Rattle.stack_algebra.proofs.OrderedFractions.{ordered_fractions};
 ghost use Rattle.stack_rational.specs.Order.{is_zero_whole};
@@ -16,16 +16,17 @@ use crate::bounding::{over_for, own_top_of, small_step, under_fits};
 use crate::given::Given;
 use crate::remaking::remake_row;
 use crate::row::{PivotRow, TableRow};
-use crate::spots::{RowStep, cell, numbers_fit, row_spot};
+use crate::spots::{RowStep, cell, numbers_fit, reduced_cell, row_spot};
 use stack_bland::Found;
 use stack_rows::{Divider, Row, factors_of};
 use stack_table::TurnRefusal;
 
-/// Whether all numbers of a step fit, one by one: a hint.
-fn all_fit(row: &[i128], pivot: &[i128], s: &RowStep) -> bool
-    requires { length pivot.now ≡ length row.now }
+/// Whether the first numbers of a step fit, one by one: a hint.
+fn first_fit(row: &[i128], pivot: &[i128], s: &RowStep, count: usize) -> bool
+    requires width { length pivot.now ≡ length row.now }
+    requires count { count ≤ length row.now }
 {
-    for j in 0..row.len() {
+    for j in 0..count {
         if !numbers_fit(s, row[j], pivot[j]) {
             return false;
         }
@@ -33,8 +34,49 @@ fn all_fit(row: &[i128], pivot: &[i128], s: &RowStep) -> bool
     true
 }
 
-/// Takes a multiple of the pivot row from a row: from its numbers where these fit one by one, and else from the reduced
-/// cells. Gives up likely where these have no common denominator with which all numbers fit.
+/// Takes a multiple of the pivot row from a row: from its numbers but for the right side, which becomes the reduced
+/// cell. Gives up where a number doesn't fit.
+fn take_by_cell(row: &mut Row, pivot: &Row, s: &RowStep) -> Option<()>
+    requires width { length pivot.now.numbers.items ≡ length row.old.numbers.items }
+    requires under { s.now.under ≡ row.old.under }
+    ensures width { length row.new.numbers.items ≡ length row.old.numbers.items }
+    ensures ok { OnSome result (IsTaken row.old.numbers.items (row.old.under *ℤ s.now.factors.times)
+        pivot.now.numbers.items s.now.factors.times s.now.factors.less row.new.numbers.items row.new.under) }
+{
+    let numbers = row.numbers.as_slice();
+    let other = pivot.numbers.as_slice();
+    let count = numbers.len().checked_sub(1)?;
+    match reduced_cell(s, numbers[count], other[count])? {
+        Ok(right) => row.take_apart(pivot, s.factors, right),
+        Err(_) => None,
+    }
+}
+
+/// Whether the right side of a step fits: a hint.
+fn right_fits(row: &[i128], pivot: &[i128], s: &RowStep) -> bool {
+    match (row.last(), pivot.last()) {
+        (Some(own), Some(other)) => numbers_fit(s, *own, *other),
+        _ => false,
+    }
+}
+
+/// The same, the right side from its number too where that fits.
+fn take_numbers(row: &mut Row, pivot: &Row, s: &RowStep) -> Option<()>
+    requires width { length pivot.now.numbers.items ≡ length row.old.numbers.items }
+    requires under { s.now.under ≡ row.old.under }
+    ensures width { length row.new.numbers.items ≡ length row.old.numbers.items }
+    ensures ok { OnSome result (IsTaken row.old.numbers.items (row.old.under *ℤ s.now.factors.times)
+        pivot.now.numbers.items s.now.factors.times s.now.factors.less row.new.numbers.items row.new.under) }
+{
+    if right_fits(row.numbers.as_slice(), pivot.numbers.as_slice(), s) {
+        row.take(pivot, s.factors)
+    } else {
+        take_by_cell(row, pivot, s)
+    }
+}
+
+/// Takes a multiple of the pivot row from a row: from its numbers where these but the right side fit one by one, and
+/// else from the reduced cells. Gives up likely where these have no common denominator with which all numbers fit.
 fn take_or_remake(row: &mut Row, pivot: &Row, s: &RowStep) -> Option<()>
     requires width { length pivot.now.numbers.items ≡ length row.old.numbers.items }
     requires under { s.now.under ≡ row.old.under }
@@ -42,11 +84,13 @@ fn take_or_remake(row: &mut Row, pivot: &Row, s: &RowStep) -> Option<()>
     ensures ok { OnSome result (IsTaken row.old.numbers.items (s.now.under *ℤ s.now.pivot_under)
         pivot.now.numbers.items s.now.pivot_under s.now.number row.new.numbers.items row.new.under) }
 {
-    if all_fit(row.numbers.as_slice(), pivot.numbers.as_slice(), s) {
-        row.take(pivot, s.factors)?;
+    let numbers = row.numbers.as_slice();
+    let other = pivot.numbers.as_slice();
+    if first_fit(numbers, other, s, numbers.len().saturating_sub(1)) {
+        take_numbers(row, pivot, s)?;
         Some(())
     } else {
-        remake_row(row, pivot.numbers.as_slice(), s)
+        remake_row(row, other, s)
     }
 }
 

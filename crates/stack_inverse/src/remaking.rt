@@ -5,13 +5,15 @@ ghost use Rattle.stack_rows.specs.RowForm.{number_at, IsTaken};
 
 use crate::making::top_of;
 use crate::spots::{RowStep, reduced_cell};
+use num_traits::CheckedMul;
 use stack_rational::{Exact, divisor_of};
 use stack_rows::{CheckSums, Divider, Row, find_jumps};
 
 /// A common multiple of two positive numbers. Gives up where it doesn't fit.
 fn multiple(a: i128, b: i128) -> Option<i128> {
     let common = divisor_of(a.unsigned_abs(), b.unsigned_abs());
-    Divider::of(common.cast_signed()).exact(a)?.checked_mul(b)
+    let part = Divider::of(common.cast_signed()).exact(a)?;
+    CheckedMul::checked_mul(&part, &b)
 }
 
 /// A common denominator of the reduced cells, likely the least. Gives up where it doesn't fit.
@@ -43,7 +45,7 @@ fn remade(s: &RowStep, own: i128, pivot: i128, common: i128) -> Option<i128>
         Ok(reduced) => {
             let (number, under) = reduced.parts();
             let part = Divider::of(under).exact(common)?;
-            let product = part.checked_mul(number)?;
+            let product = CheckedMul::checked_mul(&part, &number)?;
             Some(product)
         }
         Err(_) => None,

@@ -9,6 +9,7 @@ use crate::refusal::{BlockSum, Place, part_text};
 use stack_checker::{CheckAt, Part, Reason};
 use stack_contact::Survey;
 use stack_report::number;
+use stack_whole::Decimal;
 use std::alloc::{AllocError, Global};
 
 /// What an answer says.
@@ -64,14 +65,17 @@ pub fn rejection(
         Reason::Count => format!(in alloc; "rejected {part} count\n"),
         Reason::Scale => format!(in alloc; "rejected {part} scale\n"),
         Reason::Factor => format!(in alloc; "rejected {part} factor\n"),
-        Reason::Push { k } => format!(in alloc; "rejected {part} push {}\n", number(k)),
-        Reason::Cone { k } => format!(in alloc; "rejected {part} cone {}\n", number(k)),
+        Reason::Push { k } => format!(in alloc; "rejected {part} push {}\n", Decimal(number(k))),
+        Reason::Cone { k } => format!(in alloc; "rejected {part} cone {}\n", Decimal(number(k))),
         Reason::Balance { block, axis } => {
             let name = block_name(survey, block);
             let sum = BlockSum { name, axis };
             format!(in alloc; "rejected {part} {sum}\n")
         }
-        Reason::Resisted { k } => format!(in alloc; "rejected {part} resisted {}\n", number(k)),
+        Reason::Resisted { k } => format!(in alloc;
+            "rejected {part} resisted {}\n",
+            Decimal(number(k))
+        ),
         Reason::NoWork => format!(in alloc; "rejected {part} no work\n"),
         Reason::Apart => format!(in alloc; "rejected {part} apart\n"),
     }

@@ -6,6 +6,7 @@ ghost use Rattle.stack_lines.specs.ModelLines.{spot_text, what_word, content_tex
 use stack_model::{ModelError, Spot, What};
 use stack_reader::{ReadError, word};
 use stack_report::number;
+use stack_whole::Decimal;
 use std::fmt;
 
 /// An item of the file, or its top.
@@ -47,10 +48,10 @@ impl fmt::Display for SpotText {
     fn fmt<W: fmt::Write>(&self, f: &mut fmt::Formatter<W>) -> fmt::Result {
         match self.spot {
             Spot::Top => f.write_str("top"),
-            Spot::Material(i) => write!(f, "material {}", number(i)),
-            Spot::Joint(i) => write!(f, "joint {}", number(i)),
-            Spot::Block(i) => write!(f, "block {}", number(i)),
-            Spot::Load(i) => write!(f, "load {}", number(i)),
+            Spot::Material(i) => write!(f, "material {}", Decimal(number(i))),
+            Spot::Joint(i) => write!(f, "joint {}", Decimal(number(i))),
+            Spot::Block(i) => write!(f, "block {}", Decimal(number(i))),
+            Spot::Load(i) => write!(f, "load {}", Decimal(number(i))),
         }
     }
 }
@@ -69,23 +70,31 @@ impl fmt::Display for ContentText {
                 let at = SpotText { spot };
                 write!(f, "same name {at}")
             }
-            ModelError::NoMaterial { block } => write!(f, "no material block {}", number(block)),
-            ModelError::NoBlock { load } => write!(f, "no block load {}", number(load)),
+            ModelError::NoMaterial { block } => write!(
+                f,
+                "no material block {}",
+                Decimal(number(block))
+            ),
+            ModelError::NoBlock { load } => write!(f, "no block load {}", Decimal(number(load))),
             ModelError::NotConvex { block, edge } => {
                 write!(
                     f,
                     "not convex block {} edge {}",
-                    number(block),
-                    number(edge)
+                    Decimal(number(block)),
+                    Decimal(number(edge))
                 )
             }
-            ModelError::LoadOnFixed { load } => write!(f, "load on fixed load {}", number(load)),
+            ModelError::LoadOnFixed { load } => write!(
+                f,
+                "load on fixed load {}",
+                Decimal(number(load))
+            ),
             ModelError::TooMany { what } => write!(f, "too many {}", what_text(what)),
             ModelError::Memory => f.write_str("memory"),
             ModelError::NoJointMaterial { joint } => {
-                write!(f, "no material joint {}", number(joint))
+                write!(f, "no material joint {}", Decimal(number(joint)))
             }
-            ModelError::SameJoint { joint } => write!(f, "same joint {}", number(joint)),
+            ModelError::SameJoint { joint } => write!(f, "same joint {}", Decimal(number(joint))),
         }
     }
 }

@@ -20,6 +20,7 @@ use stack_reader::ReadError;
 use stack_report::number;
 use stack_run::RunPlace;
 use stack_table::Step;
+use stack_whole::Decimal;
 use std::alloc::AllocError;
 use std::fmt;
 
@@ -227,7 +228,7 @@ impl fmt::Display for Place {
 
     fn fmt<W: fmt::Write>(&self, f: &mut fmt::Formatter<W>) -> fmt::Result {
         match self {
-            Place::Cone { k } => write!(f, "cone {}", number(*k)),
+            Place::Cone { k } => write!(f, "cone {}", Decimal(number(*k))),
             Place::Balance { name, axis } => {
                 let sum = BlockSum {
                     name: name.as_str(),
@@ -235,7 +236,7 @@ impl fmt::Display for Place {
                 };
                 write!(f, "{sum}")
             }
-            Place::Resisted { k } => write!(f, "resisted {}", number(*k)),
+            Place::Resisted { k } => write!(f, "resisted {}", Decimal(number(*k))),
             Place::Work => f.write_str("work"),
             Place::Apart => f.write_str("apart"),
         }
@@ -266,7 +267,7 @@ impl fmt::Display for RunSpot {
     fn fmt<W: fmt::Write>(&self, f: &mut fmt::Formatter<W>) -> fmt::Result {
         let place = self.place;
         let step = step_text(place.step);
-        write!(f, "{} {} {step}", place.row, place.column)
+        write!(f, "{} {} {step}", Decimal(place.row), Decimal(place.column))
     }
 }
 
@@ -277,8 +278,8 @@ impl fmt::Display for Within {
         match self {
             Within::Whole => f.write_str(""),
             Within::LeastSide => f.write_str("least "),
-            Within::Stage { number } => write!(f, "stage {number} "),
-            Within::Direction { number } => write!(f, "dir {number} "),
+            Within::Stage { number } => write!(f, "stage {} ", Decimal(*number)),
+            Within::Direction { number } => write!(f, "dir {} ", Decimal(*number)),
         }
     }
 }
@@ -321,7 +322,12 @@ impl fmt::Display for RunText {
     fn fmt<W: fmt::Write>(&self, f: &mut fmt::Formatter<W>) -> fmt::Result {
         let place = self.place;
         let spot = RunSpot { place };
-        write!(f, "run {} {} {spot}", place.phase, place.pivot)
+        write!(
+            f,
+            "run {} {} {spot}",
+            Decimal(place.phase),
+            Decimal(place.pivot)
+        )
     }
 }
 
@@ -361,7 +367,7 @@ impl fmt::Display for EndText {
         let place = self.place;
         let list = numbers_text(place.list);
         let step = end_step_text(place.step);
-        write!(f, "end {list} {step} {}", place.index)
+        write!(f, "end {list} {step} {}", Decimal(place.index))
     }
 }
 
@@ -391,11 +397,17 @@ impl fmt::Display for Refusal {
                 write!(f, "model {text}")
             }
             Refusal::Overlap { first, second } => write!(f, "model overlap {first} {second}"),
-            Refusal::ManyBearings { count } => write!(f, "model too many bearings {count}"),
+            Refusal::ManyBearings { count } => {
+                write!(f, "model too many bearings {}", Decimal(*count))
+            },
             Refusal::Size => f.write_str("model size"),
-            Refusal::CertificateLine { number } => write!(f, "certificate line {number}"),
-            Refusal::OrderLine { number } => write!(f, "order line {number}"),
-            Refusal::DirectionsLine { number } => write!(f, "directions line {number}"),
+            Refusal::CertificateLine { number } => write!(
+                f,
+                "certificate line {}",
+                Decimal(*number)
+            ),
+            Refusal::OrderLine { number } => write!(f, "order line {}", Decimal(*number)),
+            Refusal::DirectionsLine { number } => write!(f, "directions line {}", Decimal(*number)),
             Refusal::WideCheck {
                 within,
                 part,
@@ -413,10 +425,10 @@ impl fmt::Display for Refusal {
                 write!(f, "wide {within}{spot}")
             }
             Refusal::WideReach { within, place } => write!(f, "wide {within}{place}"),
-            Refusal::WideTable { index } => write!(f, "wide table {index}"),
-            Refusal::Spent { budget } => write!(f, "spent {budget}"),
+            Refusal::WideTable { index } => write!(f, "wide table {}", Decimal(*index)),
+            Refusal::Spent { budget } => write!(f, "spent {}", Decimal(*budget)),
             Refusal::NoLive => f.write_str("no live load"),
-            Refusal::NoPair { load } => write!(f, "no pair {load}"),
+            Refusal::NoPair { load } => write!(f, "no pair {}", Decimal(*load)),
             Refusal::Output => f.write_str("output"),
             Refusal::Memory => f.write_str("memory"),
         }

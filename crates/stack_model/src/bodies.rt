@@ -1,11 +1,10 @@
 //! The blocks of a file, checked one after the other.
 
-ghost use Rattle.std.specs.Prelude.{◌≡◌, List, [], ◌∷◌, ◌++◌, map, string_bytes, not, true, length, IfOk, count_by};
-ghost use Rattle.std.specs.Prelude.{position as position_of};
+ghost use Rattle.std.specs.Prelude.{◌≡◌, List, [], ◌∷◌, ◌++◌, map, string_bytes, not, true, length, IfOk, OnOk};
+ghost use Rattle.std.specs.Prelude.{count_by};
 ghost use Rattle.stack_algebra.specs.Steps.{steps};
 ghost use Rattle.stack_polygon.specs.Limits.{are_in_range};
 ghost use Rattle.stack_polygon.specs.Admission.{is_count};
-ghost use Rattle.std.specs.Str.{bytes_eq};
 ghost use Rattle.stack_model.specs.Structure.{NamedBody};
 ghost use Rattle.stack_model.specs.Raw.{raw_block, numbers_view};
 ghost use Rattle.stack_model.specs.Gives.{Gives};
@@ -13,12 +12,13 @@ ghost use Rattle.stack_model.specs.Kept.{body_view};
 ghost use Rattle.stack_model.specs.Limits.{corner_list_of};
 ghost use Rattle.stack_model.specs.Content.{ranged, found as found_of, has_room as has_room_of, with_body, add_block};
 ghost use Rattle.stack_model.specs.Content.{with_new_body, number_of, body_names, material_names};
-ghost use Rattle.stack_model.specs.Content.{is_free as is_free_of, is_new as is_new_of};
+ghost use Rattle.stack_model.specs.Content.{is_free as is_free_of};
 
 use crate::errors::ModelError;
 use crate::kept::KeptBody;
 use crate::limits::{MOST_FIXED, corners, is_name};
 use crate::materials::Materials;
+use crate::names::Names;
 use crate::outlines::outline;
 use crate::places::{Key, Spot, What};
 use crate::raw::RawBlock;
@@ -27,9 +27,10 @@ use stack_polygon::Point;
 use stack_whole::{MOST_FREE, unless};
 use std::alloc::Global;
 
-/// The bodies so far.
+/// The bodies, and their names.
 #[derive(Drop)]
 pub struct Bodies {
+    names: Names,
     pub(crate) kept: Vec<KeptBody>,
 }
 
@@ -37,6 +38,8 @@ impl std::marker::Model for Bodies {
     ghost Value = { List NamedBody };
 
     ghost view = { λ m. map body_view m.kept.items };
+
+    ghost invariant = { λ m. m.names ≡ body_names (map body_view m.kept.items) };
 }
 
 fn corners_at(alloc: Global, spot: Spot, lists: &[Vec<i64>]) -> Result<Vec<Point>, ModelError>
@@ -122,35 +125,12 @@ fn new_body(
     })
 }
 
-/// The place of the body with a name.
-fn position(kept: &[KeptBody], name: &str) -> Option<usize>
-    ensures { result ≡ position_of (λ b. bytes_eq name.now (string_bytes b.name)) kept.now }
-{
-    kept.iter().position(|b| name == b.name.as_str())
-}
-
 impl Bodies {
-    /// No bodies yet. Takes no memory.
-    pub fn new(alloc: Global) -> Bodies
-        ensures { result ≡ [] }
-    {
-        Bodies {
-            kept: Vec::new(alloc),
-        }
-    }
-
     /// The number of the body with a name.
     pub fn number(&self, name: &str) -> Option<usize>
         ensures { result ≡ number_of name.now (body_names self.now) }
     {
-        position(self.kept.as_slice(), name)
-    }
-
-    /// Whether no body has the name.
-    fn is_new(&self, name: &str) -> bool
-        ensures { result ≡ is_new_of name.now (body_names self.now) }
-    {
-        self.number(name).is_none()
+        self.names.number(name)
     }
 
     /// Whether the body with a number isn't fixed.
@@ -162,49 +142,58 @@ impl Bodies {
             None => false,
         }
     }
-
-    /// One more body, as block `index`.
-    #[tactic(auto, unfolding(crate::specs::Content::with_body))]
-    fn with(
-        mut self,
-        alloc: Global,
-        index: usize,
-        name: &str,
-        material: Option<usize>,
-        fixed: bool,
-        corners: Vec<Point>,
-    ) -> Result<Bodies, ModelError>
-        requires count { is_count (length corners.items) ≡ true }
-        requires range { are_in_range corners.items ≡ true }
-        ensures { Gives (λ m. m) result (with_body index name.now material fixed corners.items self) }
-    {
-        let fault = ModelError::SameName {
-            spot: Spot::Block(index),
-        };
-        unless(self.is_new(name), fault)?;
-        let body = new_body(
-            alloc,
-            index,
-            name,
-            material,
-            fixed,
-            corners,
-            self.kept.as_slice(),
-        )?;
-        self.kept.push(body)?;
-        Ok(self)
-    }
 }
 
+/// One more body, as block `index`.
+#[tactic(auto, unfolding(crate::specs::Content::with_body))]
+fn keep(
+    alloc: Global,
+    names: &mut Names,
+    kept: &mut Vec<KeptBody>,
+    index: usize,
+    name: &str,
+    material: Option<usize>,
+    fixed: bool,
+    corners: Vec<Point>,
+) -> Result<(), ModelError>
+    requires count { is_count (length corners.items) ≡ true }
+    requires range { are_in_range corners.items ≡ true }
+    requires names { names.old ≡ body_names (map body_view kept.old.items) }
+    ensures value { Gives (λ _. map body_view kept.new.items) result
+        (with_body index name.now material fixed corners.items (map body_view kept.old.items)) }
+    ensures names { OnOk result (names.new ≡ body_names (map body_view kept.new.items)) }
+{
+    if !names.add(alloc, name)? {
+        return Err(ModelError::SameName {
+            spot: Spot::Block(index),
+        });
+    }
+    kept.push(new_body(
+        alloc,
+        index,
+        name,
+        material,
+        fixed,
+        corners,
+        kept.as_slice(),
+    )?)?;
+    Ok(())
+}
+
+/// One more body, from the part of block `index`.
 #[tactic(auto, unfolding(crate::specs::Content::add_block))]
 fn add(
     alloc: Global,
     index: usize,
-    so_far: Bodies,
+    names: &mut Names,
+    kept: &mut Vec<KeptBody>,
     materials: &Materials,
     raw: &RawBlock,
-) -> Result<Bodies, ModelError>
-    ensures { Gives (λ m. m) result (add_block materials.now index so_far (raw_block raw.now)) }
+) -> Result<(), ModelError>
+    requires { names.old ≡ body_names (map body_view kept.old.items) }
+    ensures value { Gives (λ _. map body_view kept.new.items) result
+        (add_block materials.now index (map body_view kept.old.items) (raw_block raw.now)) }
+    ensures names { OnOk result (names.new ≡ body_names (map body_view kept.new.items)) }
 {
     let spot = Spot::Block(index);
     unless(
@@ -216,8 +205,10 @@ fn add(
     )?;
     let corners = corners_at(alloc, spot, raw.corners.as_slice())?;
     let material = materials.number(raw.material.as_str());
-    so_far.with(
+    keep(
         alloc,
+        names,
+        kept,
         index,
         raw.name.as_str(),
         material,
@@ -234,9 +225,10 @@ pub fn all_bodies(
 ) -> Result<Bodies, ModelError>
     ensures { Gives (λ m. m) result (steps (add_block materials.now) 0 [] (map raw_block raws.now)) }
 {
-    let mut so_far = Bodies::new(alloc);
+    let mut names = Names::new(alloc);
+    let mut kept = Vec::new(alloc);
     for (index, raw) in raws.iter().enumerate() {
-        so_far = add(alloc, index, so_far, materials, raw)?;
+        add(alloc, index, &mut names, &mut kept, materials, raw)?;
     }
-    Ok(so_far)
+    Ok(Bodies { names, kept })
 }

@@ -22,6 +22,7 @@ mod listing;
 mod loads;
 mod materials;
 mod model;
+mod names;
 mod outlines;
 mod parting;
 mod places;

@@ -1,7 +1,6 @@
 //! The materials of a file, checked one after the other.
 
-ghost use Rattle.std.specs.Prelude.{◌≡◌, List, [], map, pos, string_bytes, position as position_of};
-ghost use Rattle.std.specs.Str.{bytes_eq};
+ghost use Rattle.std.specs.Prelude.{◌≡◌, List, [], map, pos, OnOk};
 ghost use Rattle.stack_model.specs.Structure.{NamedMaterial};
 ghost use Rattle.stack_model.specs.Kept.{material_view};
 ghost use Rattle.stack_model.specs.Raw.{raw_material};
@@ -9,20 +8,22 @@ ghost use Rattle.stack_model.specs.Gives.{Gives};
 ghost use Rattle.stack_model.specs.Limits.{friction_of};
 ghost use Rattle.stack_algebra.specs.Steps.{steps};
 ghost use Rattle.stack_model.specs.Content.{ranged, with_material, add_material, number_of};
-ghost use Rattle.stack_model.specs.Content.{material_names, is_new as is_new_of};
+ghost use Rattle.stack_model.specs.Content.{material_names};
 
 use crate::errors::ModelError;
 use crate::kept::KeptMaterial;
 use crate::limits::{friction, is_between, is_name};
+use crate::names::Names;
 use crate::places::{Key, Spot};
 use crate::raw::RawMaterial;
 use crate::types::Material;
 use stack_whole::{GREATEST_WEIGHT, unless};
 use std::alloc::Global;
 
-/// The materials so far.
+/// The materials, and their names.
 #[derive(Drop)]
 pub struct Materials {
+    names: Names,
     pub(crate) kept: Vec<KeptMaterial>,
 }
 
@@ -30,6 +31,8 @@ impl std::marker::Model for Materials {
     ghost Value = { List NamedMaterial };
 
     ghost view = { λ m. map material_view m.kept.items };
+
+    ghost invariant = { λ m. m.names ≡ material_names (map material_view m.kept.items) };
 }
 
 /// A coefficient of friction at its place.
@@ -45,70 +48,57 @@ pub fn friction_at(spot: Spot, numbers: &[i64]) -> Result<(i64, i64), ModelError
     }
 }
 
-/// The place of the material with a name.
-fn position(kept: &[KeptMaterial], name: &str) -> Option<usize>
-    ensures { result ≡ position_of (λ m. bytes_eq name.now (string_bytes m.name)) kept.now }
-{
-    kept.iter().position(|m| name == m.name.as_str())
-}
-
 impl Materials {
-    /// No materials yet. Takes no memory.
-    pub fn new(alloc: Global) -> Materials
-        ensures { result ≡ [] }
-    {
-        Materials {
-            kept: Vec::new(alloc),
-        }
-    }
-
     /// The number of the material with a name.
     pub fn number(&self, name: &str) -> Option<usize>
         ensures { result ≡ number_of name.now (material_names self.now) }
     {
-        position(self.kept.as_slice(), name)
-    }
-
-    /// Whether no material has the name.
-    fn is_new(&self, name: &str) -> bool
-        ensures { result ≡ is_new_of name.now (material_names self.now) }
-    {
-        self.number(name).is_none()
-    }
-
-    /// One more material, with a name of its own.
-    #[tactic(auto, unfolding(crate::specs::Content::with_material))]
-    fn with(
-        mut self,
-        alloc: Global,
-        spot: Spot,
-        name: &str,
-        material: Material,
-    ) -> Result<Materials, ModelError>
-        ensures { Gives (λ m. m) result (with_material spot (record {
-          name = name.now;
-          weight = material.weight;
-          p = material.p;
-          q = material.q;
-        }) self) }
-    {
-        unless(self.is_new(name), ModelError::SameName { spot })?;
-        self.kept.push(KeptMaterial {
-            name: String::from_str(alloc, name)?,
-            material,
-        })?;
-        Ok(self)
+        self.names.number(name)
     }
 }
 
+/// One more material, with a name of its own.
+#[tactic(auto, unfolding(crate::specs::Content::with_material))]
+fn keep(
+    alloc: Global,
+    names: &mut Names,
+    kept: &mut Vec<KeptMaterial>,
+    spot: Spot,
+    name: &str,
+    material: Material,
+) -> Result<(), ModelError>
+    requires { names.old ≡ material_names (map material_view kept.old.items) }
+    ensures value { Gives (λ _. map material_view kept.new.items) result (with_material spot (record {
+      name = name.now;
+      weight = material.weight;
+      p = material.p;
+      q = material.q;
+    }) (map material_view kept.old.items)) }
+    ensures names { OnOk result (names.new ≡ material_names (map material_view kept.new.items)) }
+{
+    if !names.add(alloc, name)? {
+        return Err(ModelError::SameName { spot });
+    }
+    kept.push(KeptMaterial {
+        name: String::from_str(alloc, name)?,
+        material,
+    })?;
+    Ok(())
+}
+
+/// One more material, as material `index`.
 #[tactic(auto, unfolding(crate::specs::Content::add_material))]
 fn add(
     alloc: Global,
     index: usize,
-    so_far: Materials,
+    names: &mut Names,
+    kept: &mut Vec<KeptMaterial>,
     raw: &RawMaterial,
-) -> Result<Materials, ModelError>
-    ensures { Gives (λ m. m) result (add_material index so_far (raw_material raw.now)) }
+) -> Result<(), ModelError>
+    requires { names.old ≡ material_names (map material_view kept.old.items) }
+    ensures value { Gives (λ _. map material_view kept.new.items) result
+        (add_material index (map material_view kept.old.items) (raw_material raw.now)) }
+    ensures names { OnOk result (names.new ≡ material_names (map material_view kept.new.items)) }
 {
     let spot = Spot::Material(index);
     unless(
@@ -131,16 +121,17 @@ fn add(
         p,
         q,
     };
-    so_far.with(alloc, spot, raw.name.as_str(), material)
+    keep(alloc, names, kept, spot, raw.name.as_str(), material)
 }
 
 /// The materials, or the first fault of their content.
 pub fn all_materials(alloc: Global, raws: &[RawMaterial]) -> Result<Materials, ModelError>
     ensures { Gives (λ m. m) result (steps add_material 0 [] (map raw_material raws.now)) }
 {
-    let mut so_far = Materials::new(alloc);
+    let mut names = Names::new(alloc);
+    let mut kept = Vec::new(alloc);
     for (index, raw) in raws.iter().enumerate() {
-        so_far = add(alloc, index, so_far, raw)?;
+        add(alloc, index, &mut names, &mut kept, raw)?;
     }
-    Ok(so_far)
+    Ok(Materials { names, kept })
 }

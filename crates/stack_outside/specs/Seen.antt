@@ -1,6 +1,6 @@
 -- What is seen of a device across one call: what the trait tells of it before the call and after it. A theorem on a
 -- whole program speaks of its shelf and its streams by these.
-use Rattle.std.specs.Prelude.{ℕ, List, Option, None}
+use Rattle.std.specs.Prelude.{ℕ, List, Option, None, Some}
 use Rattle.std.specs.Io.KnownBytes.{Appends, Keeps}
 use Rattle.stack_outside.specs.declared.shelf.Shelf.{Ghosts as ShelfGhosts}
 use Rattle.stack_outside.specs.declared.sink.Sink.{Ghosts as SinkGhosts}
@@ -46,15 +46,15 @@ seen_stream stream before after = record {
   calls_after = stream.calls after;
 }
 
--- What is seen of a stream that tells neither its bytes nor its calls, as the real ones.
-abbrev pub seen_untold : (faults faults_after : ℕ) → StreamSeen
-seen_untold faults faults_after = record {
+-- What is seen of a stream that tells its calls but not its bytes, as the program's own.
+abbrev pub seen_counted : (faults faults_after calls calls_after : ℕ) → StreamSeen
+seen_counted faults faults_after calls calls_after = record {
   written = None;
   written_after = None;
   faults = faults;
   faults_after = faults_after;
-  calls = None;
-  calls_after = None;
+  calls = Some calls;
+  calls_after = Some calls_after;
 }
 
 -- The shelf failed in the call: its count of faults rose.

@@ -32,5 +32,6 @@ pub use shelf::Shelf;
 pub use sink::Sink;
 pub use stream::{EitherStream, Stream};
 pub use system::{
-    FaultSink, OutputSink, SystemFile, SystemFiles, SystemStream, standard_error, standard_output,
+    CountedSink, FaultSink, OutputSink, SystemFile, SystemFiles, SystemStream, standard_error,
+    standard_output,
 };

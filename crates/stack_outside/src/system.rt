@@ -4,12 +4,13 @@
 //! it failed. That they call at all is tested. Which stream is which is a matter of types, as each handle writes to its
 //! own. Of real files and streams the kit tells no bytes, and so the real devices tell none.
 
-ghost use Rattle.std.specs.Prelude.{◌≡◌, None};
+ghost use Rattle.std.specs.Prelude.{◌≡◌, None, Some};
 
-use crate::error::CallFailed;
+use crate::error::{CallFailed, SinkFailed};
 use crate::raw::{RawFile, RawFiles, RawStream};
 use crate::real_shelf::RealShelf;
 use crate::real_sink::RealSink;
+use crate::sink::Sink;
 use crate::stream::{EitherStream, Stream};
 use std::alloc::Global;
 use std::fs;
@@ -114,27 +115,55 @@ impl RealSink {
     }
 }
 
+/// A sink that counts its calls.
+#[derive(Drop)]
+pub struct CountedSink<S: Sink + Drop> {
+    sink: S,
+    calls: u64,
+}
+
+impl<S: Sink + Drop> Sink for CountedSink<S> {
+    ghost written = { λ s. S.written s.sink };
+
+    ghost faults = { λ s. S.faults s.sink };
+
+    ghost calls = { λ s. Some s.calls };
+
+    fn put(&mut self, piece: &[u8]) -> Result<(), SinkFailed> {
+        self.calls = self.calls.saturating_add(1);
+        self.sink.put(piece)
+    }
+}
+
 /// A sink over standard output. It is of another type than one over standard error, so that no call takes one for the
 /// other.
-pub type OutputSink = RealSink<SystemStream<Stdout>>;
+pub type OutputSink = CountedSink<RealSink<SystemStream<Stdout>>>;
 
 /// A sink over standard error.
-pub type FaultSink = RealSink<SystemStream<Stderr>>;
+pub type FaultSink = CountedSink<RealSink<SystemStream<Stderr>>>;
 
 /// Standard output, with no fault yet.
 pub fn standard_output(rt: &HostRuntime) -> OutputSink
-    ensures faults { result.faults ≡ 0 }
+    ensures faults { result.sink.faults ≡ 0 }
+    ensures calls { result.calls ≡ 0 }
 {
-    RealSink::over(SystemStream {
-        writer: rt.stdout(),
-    })
+    CountedSink {
+        sink: RealSink::over(SystemStream {
+            writer: rt.stdout(),
+        }),
+        calls: 0,
+    }
 }
 
 /// Standard error, with no fault yet.
 pub fn standard_error(rt: &HostRuntime) -> FaultSink
-    ensures faults { result.faults ≡ 0 }
+    ensures faults { result.sink.faults ≡ 0 }
+    ensures calls { result.calls ≡ 0 }
 {
-    RealSink::over(SystemStream {
-        writer: rt.stderr(),
-    })
+    CountedSink {
+        sink: RealSink::over(SystemStream {
+            writer: rt.stderr(),
+        }),
+        calls: 0,
+    }
 }

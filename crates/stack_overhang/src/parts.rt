@@ -11,6 +11,7 @@ ghost use Rattle.stack_overhang.specs.Listing.{push_listed};
 
 use crate::types::Rectangle;
 use stack_model::{RawBlock, RawLoad, RawMaterial};
+use stack_whole::Decimal;
 use std::alloc::{AllocError, Global};
 
 /// Two numbers.
@@ -76,7 +77,7 @@ fn name(alloc: Global, k: usize) -> Result<String, AllocError>
     requires { k < most_free }
     ensures { IfOk result (λ s. string_bytes s ≡ brick_name k) }
 {
-    format!(in alloc; "b{}", k + 1)
+    format!(in alloc; "b{}", Decimal(k + 1))
 }
 
 /// Brick `k`, from 0.

@@ -17,7 +17,7 @@ mod laws;
 mod of_wholes;
 mod scale;
 
-pub use exact::{Exact, Op, OpWide};
+pub use exact::{Exact, Op, OpWide, OpWide as Wide};
 pub use frac::Frac;
 pub use halves::{divisor_of, divisor_of_words};
 pub use integer::Integer;

@@ -54,10 +54,13 @@ bearing_lines d bs parts = lines_from (λ k z. force_line d k z (push_at parts k
 abbrev pub forces_part : Surveyed → (over : ℤ) → List (ℤ × ℤ) → List ℕ
 forces_part s over parts = bearing_lines (pos 6 *ℤ over) s.bearings parts
 
+-- the velocity of a block's first stored corner and its turning rate
+unfoldable pub velocity_text : (u v r : ℤ) → List ℕ
+velocity_text u v r = signed_decimal u ++ codes " " ++ signed_decimal v ++ codes " " ++ signed_decimal r
+
 -- the move of a block with this name
 abbrev pub move_text : List ℕ → ℤ × ℤ × ℤ → List ℕ
-move_text name m = codes "move " ++ name ++ codes " " ++ signed_decimal m.0 ++ codes " " ++ signed_decimal m.1
-    ++ codes " " ++ signed_decimal m.2
+move_text name m = codes "move " ++ name ++ codes " " ++ velocity_text m.0 m.1 m.2
 
 -- the line of free block number b, which is body i, with its move
 abbrev pub body_move_line : Structure → MotionValue → (b i : ℕ) → List ℕ

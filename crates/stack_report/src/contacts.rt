@@ -8,6 +8,7 @@ ghost use Rattle.stack_report.specs.ContactTable.{bearings_part, touches_part, c
 use crate::lines::{BearingLine, TouchLine, name};
 use stack_contact::{Bearing, Survey, Touch};
 use stack_model::Model;
+use stack_whole::Decimal;
 use std::alloc::{AllocError, Global};
 use std::fmt::Write;
 
@@ -77,14 +78,14 @@ fn with_touches(text: String, model: &Model, touches: &[Touch]) -> Result<String
 fn bearings_table(alloc: Global, s: &Survey) -> Result<String, AllocError>
     ensures { IfOk result (λ t. string_bytes t ≡ bearings_part s.now) }
 {
-    let head = format!(in alloc; "bearings {}\n", s.bearings().len())?;
+    let head = format!(in alloc; "bearings {}\n", Decimal(s.bearings().len()))?;
     with_bearings(head, s.model(), s.bearings())
 }
 
 fn touches_table(alloc: Global, s: &Survey) -> Result<String, AllocError>
     ensures { IfOk result (λ t. string_bytes t ≡ touches_part s.now) }
 {
-    let head = format!(in alloc; "touches {}\n", s.touches().len())?;
+    let head = format!(in alloc; "touches {}\n", Decimal(s.touches().len()))?;
     with_touches(head, s.model(), s.touches())
 }
 

@@ -1,10 +1,11 @@
 //! The lines of a table of forces, without their line feeds.
 
 ghost use Rattle.std.specs.Prelude.{Some};
-ghost use Rattle.stack_report.specs.ForceTable.{force_text, move_text};
+ghost use Rattle.stack_report.specs.ForceTable.{force_text, move_text, velocity_text};
 
 use crate::lines::number;
 use crate::ratio::Ratio;
+use stack_whole::Decimal;
 use std::fmt;
 
 /// The force of the bearing with this number, from 0, to the right and upwards.
@@ -24,11 +25,40 @@ pub struct MoveLine<'a> {
     pub r: i128,
 }
 
+/// The velocity of a corner and a turning rate.
+#[derive(Clone, Copy)]
+struct Velocity {
+    u: i128,
+    v: i128,
+    r: i128,
+}
+
 impl fmt::Display for ForceLine {
     ghost output = { λ l. Some (force_text l.index l.x l.y) };
 
     fn fmt<W: fmt::Write>(&self, f: &mut fmt::Formatter<W>) -> fmt::Result {
-        write!(f, "force {} {} {}", number(self.index), self.x, self.y)
+        write!(
+            f,
+            "force {} {} {}",
+            Decimal(number(self.index)),
+            self.x,
+            self.y
+        )
+    }
+}
+
+impl fmt::Display for Velocity {
+    ghost output = { λ m. Some (velocity_text m.u m.v m.r) };
+
+    #[tactic(auto, unfolding(crate::specs::ForceTable::velocity_text))]
+    fn fmt<W: fmt::Write>(&self, f: &mut fmt::Formatter<W>) -> fmt::Result {
+        write!(
+            f,
+            "{} {} {}",
+            Decimal(self.u),
+            Decimal(self.v),
+            Decimal(self.r)
+        )
     }
 }
 
@@ -36,6 +66,11 @@ impl fmt::Display for MoveLine<'_> {
     ghost output = { λ l. Some (move_text l.name.now (l.u, l.v, l.r)) };
 
     fn fmt<W: fmt::Write>(&self, f: &mut fmt::Formatter<W>) -> fmt::Result {
-        write!(f, "move {} {} {} {}", self.name, self.u, self.v, self.r)
+        let velocity = Velocity {
+            u: self.u,
+            v: self.v,
+            r: self.r,
+        };
+        write!(f, "move {} {velocity}", self.name)
     }
 }

@@ -9,6 +9,7 @@ use stack_contact::{Bearing, Touch};
 use stack_frame::{Cone, Frame};
 use stack_model::Model;
 use stack_polygon::Point;
+use stack_whole::Decimal;
 use std::fmt;
 
 /// A number as users count, from 1.
@@ -98,7 +99,7 @@ impl fmt::Display for TwoNumbers {
 
     #[tactic(auto, unfolding(crate::specs::ContactTable::pair_text))]
     fn fmt<W: fmt::Write>(&self, f: &mut fmt::Formatter<W>) -> fmt::Result {
-        write!(f, "{} {}", self.a, self.b)
+        write!(f, "{} {}", Decimal(self.a), Decimal(self.b))
     }
 }
 
@@ -136,7 +137,7 @@ impl fmt::Display for BearingLine<'_> {
         write!(
             f,
             "bearing {} {} {} {numbers}",
-            number(self.index),
+            Decimal(number(self.index)),
             self.first,
             self.second
         )
@@ -151,7 +152,7 @@ impl fmt::Display for TouchLine<'_> {
         write!(
             f,
             "touch {} {} {} {at}",
-            number(self.index),
+            Decimal(number(self.index)),
             self.first,
             self.second
         )

@@ -6,7 +6,7 @@ ghost use Rattle.stack_whole.specs.Whole.{IsFitting};
 ghost use Rattle.stack_report.specs.ForceTable.{lowest_ratio, ratio_text};
 
 use stack_rational::{Exact, over};
-use stack_whole::Whole;
+use stack_whole::{Decimal, Whole};
 use std::fmt;
 
 /// A fraction in lowest terms, with a positive denominator.
@@ -21,7 +21,7 @@ impl fmt::Display for Ratio {
 
     #[tactic(auto, unfolding(crate::specs::ForceTable::ratio_text))]
     fn fmt<W: fmt::Write>(&self, f: &mut fmt::Formatter<W>) -> fmt::Result {
-        write!(f, "{}/{}", self.num, self.den)
+        write!(f, "{}/{}", Decimal(self.num), Decimal(self.den))
     }
 }
 

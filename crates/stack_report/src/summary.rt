@@ -13,6 +13,7 @@ use crate::forces::with_factor;
 use stack_certificate::Certificate;
 use stack_checker::Check;
 use stack_contact::Survey;
+use stack_whole::Decimal;
 use std::alloc::{AllocError, Global};
 use std::fmt::Write;
 
@@ -20,7 +21,7 @@ use std::fmt::Write;
 fn with_count(mut text: String, word: &str, count: usize) -> Result<String, AllocError>
     ensures { IfOk result (λ t. string_bytes t ≡ string_bytes text ++ count_line word.now count) }
 {
-    write!(text, "{word} {count}\n")?;
+    write!(text, "{word} {}\n", Decimal(count))?;
     Ok(text)
 }
 

@@ -8,3 +8,4 @@ pub mod Skips
 pub mod Combined
 pub mod Divided
 pub mod Taken
+pub mod Apart

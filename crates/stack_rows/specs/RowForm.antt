@@ -24,6 +24,10 @@ pub record AreSmall (k t : ℤ) (n o : ℕ) : Type 0 where
   pub words : AreWords n o
   pub sum : n * unsigned_abs k + unsigned_abs t * o ≤ 2 ^ 63 - 1
 
+-- what a row step makes of numbers of these sizes fits 128 bits
+pub record AreFit (k t : ℤ) (n o : ℕ) : Type 0 where
+  pub sum : n * unsigned_abs k + unsigned_abs t * o ≤ 2 ^ 127 - 1
+
 -- the steps of the numbers of a row before a place are small
 abbrev pub AreSmallBelow : (end : ℕ) → (k t : ℤ) → (own other : List ℤ) → Type 0
 AreSmallBelow end k t own other = (j : ℕ) → j < end →
@@ -80,6 +84,21 @@ pub record IsTaken (old : List ℤ) (w : ℤ) (pivot : List ℤ) (k t : ℤ) (ne
   pub positive : pos 0 <ℤ after
   pub number : (r : ℕ) → number_at new r *ℤ w
       ≡ (number_at old r *ℤ k -ℤ t *ℤ number_at pivot r) *ℤ after
+
+-- what such a step makes of the right side is n over e
+abbrev pub IsRight : (old : List ℤ) → (w : ℤ) → (pivot : List ℤ) → (k t n e : ℤ) → Type 0
+IsRight old w pivot k t n e = n *ℤ w
+    ≡ (number_at old (length old - 1) *ℤ k -ℤ t *ℤ number_at pivot (length old - 1)) *ℤ e
+
+-- the first numbers of a row over d are brought over another denominator, and the next one is put: n over e
+pub record IsPutOver (old : List ℤ) (d n e : ℤ) (count : ℕ) (new : List ℤ) (after : ℤ) : Type 0 where
+  pub more : ℤ
+  pub part : ℤ
+  pub positive : pos 0 <ℤ after
+  pub under : after ≡ d *ℤ more
+  pub whole : part *ℤ e ≡ after
+  pub before : (j : ℕ) → j < count → number_at new j ≡ number_at old j *ℤ more
+  pub right : number_at new count ≡ part *ℤ n
 
 -- what a row step over d makes of numbers of at most b, and of at most p in the pivot row, isn't too wide for m, nor
 -- is its denominator r before it is reduced

@@ -3,6 +3,7 @@
 ghost use Rattle.std.specs.Prelude.{◌≡◌, ◌*ℤ◌, IfSome};
 
 use crate::words::{inverse, low, product_of, word};
+use num_traits::CheckedMul;
 
 /// A number to divide by, with what makes the division quick: how often 2 goes into it, and the inverse of what is left
 /// of it then, modulo 2^128. No clause speaks of these two: each quotient is tested by its product.
@@ -48,7 +49,7 @@ impl Divider {
             None => {}
         }
         let quotient = n.wrapping_shr(self.twos).wrapping_mul(self.inverse);
-        if quotient.checked_mul(self.by)? == n {
+        if CheckedMul::checked_mul(&quotient, &self.by)? == n {
             Some(quotient)
         } else {
             None

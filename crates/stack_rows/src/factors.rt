@@ -6,10 +6,11 @@ ghost use Rattle.stack_rows.specs.RowForm.{StepFits};
 
 use crate::divider::Divider;
 use crate::words::{size_product, whole_product};
+use num_traits::CheckedAdd;
 use stack_rational::divisor_of;
 
 /// The greatest size.
-const WIDEST: u128 = i128::MAX as u128;
+pub const WIDEST: u128 = i128::MAX as u128;
 
 /// How many times as great a row's numbers are made, and how many times the pivot row's are then taken from them.
 #[derive(Clone, Copy)]
@@ -45,7 +46,7 @@ pub fn step_under(under: i128, factors: Factors, own: u128, pivot: u128) -> Opti
 {
     let left = size_product(own, factors.times.unsigned_abs())?;
     let right = size_product(factors.less.unsigned_abs(), pivot)?;
-    let most = left.checked_add(right)?;
+    let most = CheckedAdd::checked_add(&left, &right)?;
     let over = whole_product(under, factors.times)?;
     if WIDEST < most || WIDEST < over.unsigned_abs() {
         return None;

@@ -5,6 +5,7 @@ ghost use Rattle.stack_algebra.proofs.Over.{over};
 ghost use Rattle.stack_algebra.specs.Ordered.{sign_of};
 ghost use Rattle.stack_bland.specs.BySign.{by_sign};
 
+use num_traits::CheckedMul;
 use stack_rational::{Exact, Frac};
 use std::cmp::Ordering;
 
@@ -39,8 +40,8 @@ fn order(p: Products) -> Ordering
 fn by_products(r: Ratios) -> Option<Ordering>
     ensures { IfSome result (λ o. o ≡ by_sign (sign_of (r.left *ℤ r.right_under -ℤ r.right *ℤ r.left_under))) }
 {
-    let left = r.left.checked_mul(r.right_under)?;
-    let right = r.right.checked_mul(r.left_under)?;
+    let left = CheckedMul::checked_mul(&r.left, &r.right_under)?;
+    let right = CheckedMul::checked_mul(&r.right, &r.left_under)?;
     Some(order(Products { left, right }))
 }
 

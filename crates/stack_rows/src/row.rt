@@ -3,14 +3,18 @@
 ghost use Rattle.std.specs.Prelude.{◌≡◌, ℕ, suc, ◌-◌, ◌<◌, ◌^◌, ℤ, pos, ◌*ℤ◌, ◌-ℤ◌, ◌<ℤ◌, List, length, get_or};
 ghost use Rattle.std.specs.Prelude.{OnSome, IfSome};
 ghost use Rattle.stack_rows.specs.RowForm.{AreJumps, IsTopped, IsPartTopped, IsQuotient, IsDividedPart, IsTaken};
-ghost use Rattle.stack_rows.specs.RowForm.{AreSmallBelow, AreBeside};
+ghost use Rattle.stack_rows.specs.RowForm.{number_at, AreSmallBelow, AreBeside, IsPutOver, IsRight};
 
 use crate::divider::Divider;
 use crate::factors::Factors;
 use crate::jumps::{find_jumps, join_jumps};
-use crate::step::{Divided, PlainStep, Reached, Step, Way, divide, divide_from, top_of};
+use crate::step::{
+    Divided, PlainStep, Reached, Step, Way, divide, divide_from, fit, multiply_before, top_of,
+};
 use crate::sums::{CheckSums, narrowed};
 use crate::words::{is_word, product, size_product, whole_product};
+use num_traits::CheckedSub;
+use stack_rational::{Exact, Frac, divisor_of};
 use std::alloc::{AllocError, Global};
 
 /// Whole numbers over one positive denominator, the right side last.
@@ -35,6 +39,9 @@ pub struct Row {
 
 /// How many steps the jumps of a row are kept for at most.
 const OLD: u8 = 32;
+
+/// By how many numbers a row's divisor is guessed.
+const ENOUGH: u8 = 8;
 
 /// Sums of numbers of more than this size may not have fitted on the way.
 const WIDE: u128 = 1 << 118;
@@ -65,6 +72,26 @@ fn guess_of(row: &Row, other: &Row, factors: Factors, into: i128) -> i128 {
     row.sums
         .stepped(other.sums, factors.times, factors.less)
         .narrowed(narrowed(right, into))
+}
+
+/// The same by the first numbers of the row that aren't 0 then, where the check sums may not have fitted.
+fn guess_by_numbers(numbers: &[i128], other: &[i128], factors: Factors, into: i128) -> i128
+    requires { length other.now ≡ length numbers.now }
+{
+    let mut guess = into;
+    let mut seen: u8 = 0;
+    for j in 1..numbers.len() {
+        let left = numbers[j - 1].wrapping_mul(factors.times);
+        let made = left.wrapping_sub(factors.less.wrapping_mul(other[j - 1]));
+        if made != 0 {
+            guess = narrowed(made, guess);
+            seen = seen.saturating_add(1);
+        }
+        if guess == 1 || ENOUGH <= seen {
+            return guess;
+        }
+    }
+    guess
 }
 
 /// The check sums of a row that is stepped and divided: anew where they may not have fitted on the way.
@@ -143,7 +170,8 @@ fn right_after(number: i128, other: i128, plain: &PlainStep) -> Option<i128>
     ensures { IfSome result (λ r. r ≡ number *ℤ plain.now.times -ℤ other *ℤ plain.now.less) }
 {
     let left = product(number, plain.times)?;
-    left.checked_sub(product(other, plain.less)?)
+    let right = product(other, plain.less)?;
+    CheckedSub::checked_sub(&left, &right)
 }
 
 /// A plain step of all numbers of a row.
@@ -197,6 +225,35 @@ fn plainly_changed(
     }
 }
 
+/// A step of the numbers of a row but its right side.
+fn first_after(
+    numbers: &mut [i128],
+    other: &Row,
+    jumps: &[u16],
+    count: usize,
+    s: &Step,
+    top: u128,
+) -> Option<Divided>
+    requires count { length numbers.old ≡ suc count }
+    requires beside { AreBeside numbers.old other.now.numbers.items jumps.now top }
+    requires other_jumps { AreJumps other.now.numbers.items jumps.now }
+    ensures ok { IfSome result (λ d. IsDividedPart numbers.old other.now.numbers.items s.now.factors.times
+        s.now.factors.less d.by 0 count numbers.new) }
+    ensures top { IfSome result (λ d. IsPartTopped 0 count numbers.new d.top) }
+{
+    let words = is_word(top) && is_word(other.top);
+    let fit = fit(s.factors, top, other.top);
+    divide(
+        numbers,
+        other.numbers.as_slice(),
+        jumps,
+        count,
+        s,
+        words,
+        fit,
+    )
+}
+
 /// A step of all numbers of a row.
 fn numbers_after(
     numbers: &mut [i128],
@@ -213,8 +270,7 @@ fn numbers_after(
 {
     let count = numbers.len().checked_sub(1)?;
     let pivot = other.numbers.as_slice();
-    let words = is_word(top) && is_word(other.top);
-    let divided = divide(numbers, pivot, jumps, count, s, words)?;
+    let divided = first_after(numbers, other, jumps, count, s, top)?;
     numbers[count] = number_after(numbers[count], pivot[count], s, divided.by)?;
     Some(divided)
 }
@@ -296,9 +352,94 @@ fn changed(
     }
 }
 
+/// A denominator that is raised, by what, and how often another one goes into it.
+#[derive(Clone, Copy)]
+struct Raised {
+    under: i128,
+    more: i128,
+    part: i128,
+}
+
+/// A multiple of a denominator and of that of a cell, likely the least. Gives up where it isn't positive or doesn't
+/// fit.
+fn raise(under: i128, right: Frac<i128>) -> Option<Raised>
+    ensures positive { IfSome result (λ r. pos 0 <ℤ r.under) }
+    ensures under { IfSome result (λ r. r.under ≡ under *ℤ r.more) }
+    ensures part { IfSome result (λ r. r.part *ℤ pos right.den ≡ r.under) }
+{
+    let own = right.parts().1;
+    let common = divisor_of(under.unsigned_abs(), own.unsigned_abs());
+    let more = Divider::of(common.cast_signed()).exact(own)?;
+    let under = under.checked_mul(more)?;
+    if under <= 0 {
+        return None;
+    }
+    let part = Divider::of(own).exact(under)?;
+    Some(Raised { under, more, part })
+}
+
+/// Brings the numbers of a row over a denominator, all but the right side, over one with which the right side can be
+/// put, and puts that: this cell. Gives the denominator. Gives up where a number doesn't fit.
+fn put_right(numbers: &mut [i128], count: usize, under: i128, right: Frac<i128>) -> Option<i128>
+    requires { length numbers.old ≡ suc count }
+    ensures { IfSome result (λ r. IsPutOver numbers.old under right.num (pos right.den) count numbers.new r) }
+{
+    let raised = raise(under, right)?;
+    multiply_before(numbers, count, raised.more)?;
+    numbers[count] = raised.part.checked_mul(right.parts().0)?;
+    Some(raised.under)
+}
+
+/// Such a step where the cell that the right side becomes is given, with the denominator that the row then has.
+fn apart_after(
+    numbers: &mut [i128],
+    other: &Row,
+    jumps: &[u16],
+    s: &Step,
+    over: i128,
+    top: u128,
+    right: Frac<i128>,
+) -> Option<i128>
+    requires beside { AreBeside numbers.old other.now.numbers.items jumps.now top }
+    requires other_jumps { AreJumps other.now.numbers.items jumps.now }
+    requires right { IsRight numbers.old over other.now.numbers.items s.now.factors.times s.now.factors.less right.num
+        (pos right.den) }
+    ensures { IfSome result (λ r. IsTaken numbers.old over other.now.numbers.items s.now.factors.times
+        s.now.factors.less numbers.new r) }
+{
+    let count = numbers.len().checked_sub(1)?;
+    let divided = first_after(numbers, other, jumps, count, s, top)?;
+    let under = under_of(over, divided.by)?;
+    put_right(numbers, count, under, right)
+}
+
+/// The same, with jumps of the row that are made such of both rows first, and are found anew then.
+fn apart_changed(
+    numbers: &mut [i128],
+    jumps: &mut [u16],
+    other: &Row,
+    s: &Step,
+    over: i128,
+    top: u128,
+    right: Frac<i128>,
+) -> Option<i128>
+    requires beside { AreBeside numbers.old other.now.numbers.items jumps.old top }
+    requires right { IsRight numbers.old over other.now.numbers.items s.now.factors.times s.now.factors.less right.num
+        (pos right.den) }
+    ensures taken { IfSome result (λ r. IsTaken numbers.old over other.now.numbers.items s.now.factors.times
+        s.now.factors.less numbers.new r) }
+    ensures long { length jumps.new ≡ length jumps.old }
+    ensures jumps { AreJumps numbers.new jumps.new }
+{
+    join_row(jumps, other);
+    let under = apart_after(numbers, other, jumps, s, over, top, right);
+    find_jumps(numbers, jumps);
+    under
+}
+
 impl Row {
     ghost use Rattle.std.specs.Prelude.{IfOk};
-    ghost use Rattle.stack_rows.specs.RowForm.{number_at, IsSameRow};
+    ghost use Rattle.stack_rows.specs.RowForm.{IsSameRow};
 
     /// Zeros over 1.
     pub fn zeros(alloc: Global, width: u16) -> Result<Row, AllocError>
@@ -416,6 +557,40 @@ impl Row {
         }
     }
 
+    /// The same where the cell that the right side becomes is given.
+    fn change_apart(&mut self, other: &Row, s: &Step, over: i128, right: Frac<i128>) -> Option<()>
+        requires width { length other.now.numbers.items ≡ length self.old.numbers.items }
+        requires right { IsRight self.old.numbers.items over other.now.numbers.items s.now.factors.times
+            s.now.factors.less right.num (pos right.den) }
+        ensures width { length self.new.numbers.items ≡ length self.old.numbers.items }
+        ensures ok { OnSome result (IsTaken self.old.numbers.items over other.now.numbers.items s.now.factors.times
+            s.now.factors.less self.new.numbers.items self.new.under) }
+    {
+        let top = self.top;
+        let made = apart_changed(
+            self.numbers.as_mut_slice(),
+            self.jumps.as_mut_slice(),
+            other,
+            s,
+            over,
+            top,
+            right,
+        );
+        self.top = top_of(
+            self.numbers.as_slice(),
+            self.numbers.len().saturating_sub(1),
+        );
+        self.age = 0;
+        match made {
+            Some(under) => {
+                self.under = under;
+                self.sums = CheckSums::of_numbers(self.numbers.as_slice());
+                Some(())
+            }
+            None => None,
+        }
+    }
+
     /// Takes a multiple of the pivot row from the row, where all numbers but the right side are small; `over` is its
     /// denominator then. Gives up where the right side doesn't fit, or the denominator isn't positive.
     fn take_plain(&mut self, pivot: &Row, plain: &PlainStep, over: i128) -> Option<()>
@@ -466,6 +641,22 @@ impl Row {
         }
         let guess = guess_of(self, pivot, factors, self.under);
         self.change(pivot, &Step::of(factors, guess), over)
+    }
+
+    /// The same where what the step makes of the right side is given as a cell, since its number doesn't fit before it
+    /// is divided.
+    pub fn take_apart(&mut self, pivot: &Row, factors: Factors, right: Frac<i128>) -> Option<()>
+        requires width { length pivot.now.numbers.items ≡ length self.old.numbers.items }
+        requires right { IsRight self.old.numbers.items (self.old.under *ℤ factors.times) pivot.now.numbers.items
+            factors.times factors.less right.num (pos right.den) }
+        ensures width { length self.new.numbers.items ≡ length self.old.numbers.items }
+        ensures ok { OnSome result (IsTaken self.old.numbers.items (self.old.under *ℤ factors.times)
+            pivot.now.numbers.items factors.times factors.less self.new.numbers.items self.new.under) }
+    {
+        let whole = whole_product(self.under, factors.times)?;
+        let numbers = self.numbers.as_slice();
+        let guess = guess_by_numbers(numbers, pivot.numbers.as_slice(), factors, self.under);
+        self.change_apart(pivot, &Step::of(factors, guess), whole, right)
     }
 
     /// The same where all numbers but the right side are known to be small. Gives up where the right side or the

@@ -2,14 +2,16 @@
 //! divisor was too great, those before it are multiplied by what it was too great by.
 
 ghost use Rattle.std.specs.Prelude.{◌≡◌, ℕ, ◌-◌, ◌*◌, ◌^◌, ◌<◌, ◌≤◌, pos, unsigned_abs, true, length, OnSome, IfSome};
+ghost use Rattle.std.specs.Prelude.{◌*ℤ◌, ◌-ℤ◌};
 ghost use Rattle.std.specs.Option.{ForSome};
 ghost use Rattle.stack_rows.specs.RowForm.{number_at, AreJumps, SkipsOnly, IsQuotient, IsDividedPart, IsMultiplied};
-ghost use Rattle.stack_rows.specs.RowForm.{IsDividedOn, IsPartTopped, AreSmall, AreWords};
+ghost use Rattle.stack_rows.specs.RowForm.{IsDividedOn, IsPartTopped, AreSmall, AreWords, AreFit};
 
 use crate::divider::Divider;
-use crate::factors::Factors;
+use crate::factors::{Factors, WIDEST, step_under};
 use crate::sums::narrowed;
-use crate::words::{is_word, low, product, product_of, word};
+use crate::words::{is_word, low, product, product_of, size_product, word};
+use num_traits::{CheckedMul, CheckedSub};
 
 /// How many turns a division takes at most: each but one makes its divisor half as great at most.
 const TURNS: usize = 130;
@@ -134,13 +136,126 @@ impl Way for WordStep {
     fn quotient(&self, number: i128, other: i128) -> Option<i128> {
         let left = product_of(number as i64, self.times);
         let right = product_of(self.less, other as i64);
-        let n = left.checked_sub(right)?;
+        let n = CheckedSub::checked_sub(&left, &right)?;
         let quotient = low(n).wrapping_mul(self.inverse).wrapping_shr(self.twos);
         if product_of(quotient, self.by) == n {
             Some(quotient as i128)
         } else {
             None
         }
+    }
+}
+
+/// The product of a number and a word, where it fits.
+fn wide_product(number: i128, by: i64) -> i128
+    requires { unsigned_abs number * unsigned_abs by ≤ 2 ^ 127 - 1 }
+    ensures { result ≡ number *ℤ by }
+{
+    number * by as i128
+}
+
+/// The same, quicker where both are words.
+fn fit_product(number: i128, by: i64) -> i128
+    requires { unsigned_abs number * unsigned_abs by ≤ 2 ^ 127 - 1 }
+    ensures { result ≡ number *ℤ by }
+{
+    let word = low(number);
+    if word as i128 == number {
+        product_of(word, by)
+    } else {
+        wide_product(number, by)
+    }
+}
+
+/// The same step where all that it makes is known to fit, and its factors and what it is divided by are words.
+#[derive(Clone, Copy)]
+pub struct FitStep {
+    word: WordStep,
+    inverse: i128,
+    limit: u128,
+    ghost limited: { limit * unsigned_abs word.by ≤ 2 ^ 127 - 1 },
+}
+
+/// A size such that its product with a number fits: 0, or nearly the greatest.
+fn limit_of(by: u128) -> u128
+    ensures { result * by ≤ 2 ^ 127 - 1 }
+{
+    let limit = WIDEST.wrapping_shr(128 - by.leading_zeros());
+    match size_product(limit, by) {
+        Some(product) if product <= WIDEST => limit,
+        _ => 0,
+    }
+}
+
+impl FitStep {
+    fn of(word: WordStep, divider: Divider) -> FitStep
+        ensures { result.word ≡ word }
+    {
+        FitStep {
+            word,
+            inverse: divider.inverse,
+            limit: limit_of((word.by as i128).unsigned_abs()),
+        }
+    }
+
+    /// What the step makes of two numbers, before it is divided.
+    fn made(&self, number: i128, other: i128) -> i128
+        requires { AreFit self.now.word.times self.now.word.less (unsigned_abs number) (unsigned_abs other) }
+        ensures { result ≡ number *ℤ self.now.word.times -ℤ self.now.word.less *ℤ other }
+    {
+        fit_product(number, self.word.times) - fit_product(other, self.word.less)
+    }
+
+    /// The quotient of a number, given without its twos, if it is a word.
+    fn word_quotient(&self, n: i128, shifted: i128) -> Option<i64>
+        ensures { IfSome result (λ r. r *ℤ self.now.word.by ≡ n) }
+    {
+        let quotient = low(shifted).wrapping_mul(self.word.inverse);
+        if product_of(quotient, self.word.by) == n {
+            Some(quotient)
+        } else {
+            None
+        }
+    }
+
+    /// This quotient, if it is that of a number, and not too great to be tested; else it is made anew.
+    fn tested(&self, n: i128, quotient: i128) -> Option<i128>
+        ensures { IfSome result (λ r. r *ℤ self.now.word.by ≡ n) }
+    {
+        if self.limit < quotient.unsigned_abs() {
+            return Divider::of(self.word.by as i128).exact(n);
+        }
+        if wide_product(quotient, self.word.by) == n {
+            Some(quotient)
+        } else {
+            None
+        }
+    }
+
+    /// The quotient of a number, where it is whole.
+    fn quotient_of(&self, n: i128) -> Option<i128>
+        ensures { IfSome result (λ r. r *ℤ self.now.word.by ≡ n) }
+    {
+        let shifted = n.wrapping_shr(self.word.twos);
+        match self.word_quotient(n, shifted) {
+            Some(quotient) => return Some(quotient as i128),
+            None => {}
+        }
+        self.tested(n, shifted.wrapping_mul(self.inverse))
+    }
+}
+
+impl Way for FitStep {
+    ghost times = { λ s. s.word.times };
+
+    ghost less = { λ s. s.word.less };
+
+    ghost by = { λ s. s.word.by };
+
+    ghost takes = { λ s n o. AreFit s.word.times s.word.less n o };
+
+    fn quotient(&self, number: i128, other: i128) -> Option<i128> {
+        self.quotient_of(self.made(number, other))
     }
 }
 
@@ -169,13 +284,13 @@ impl Way for Step {
     fn quotient(&self, number: i128, other: i128) -> Option<i128> {
         let left = match &self.words {
             Some(w) => product(number, w.times)?,
-            None => number.checked_mul(self.factors.times)?,
+            None => CheckedMul::checked_mul(&number, &self.factors.times)?,
         };
         let right = match &self.words {
             Some(w) => product(other, w.less)?,
-            None => other.checked_mul(self.factors.less)?,
+            None => CheckedMul::checked_mul(&other, &self.factors.less)?,
         };
-        self.divider.exact(left.checked_sub(right)?)
+        self.divider.exact(CheckedSub::checked_sub(&left, &right)?)
     }
 }
 
@@ -251,13 +366,14 @@ pub fn divide_from<W: Way>(
 }
 
 /// Multiplies the first numbers.
-fn multiply_before(numbers: &mut [i128], end: usize, by: i128) -> Option<()>
+pub fn multiply_before(numbers: &mut [i128], end: usize, by: i128) -> Option<()>
     requires { end ≤ length numbers.old }
     ensures numbers { OnSome result (IsMultiplied numbers.old by end numbers.new) }
     ensures fits { OnSome result (IsPartTopped 0 end numbers.new (2 ^ 128 - 1)) }
 {
     for j in 0..end {
-        numbers[j] = numbers[j].checked_mul(by)?;
+        let number = numbers[j];
+        numbers[j] = CheckedMul::checked_mul(&number, &by)?;
     }
     Some(())
 }
@@ -282,6 +398,41 @@ pub fn top_of(numbers: &[i128], count: usize) -> u128
     top
 }
 
+/// Goes on with a step of any numbers: `fit`: what is divided fits.
+fn divide_by(
+    numbers: &mut [i128],
+    other: &[i128],
+    jumps: &[u16],
+    count: usize,
+    s: &Step,
+    fit: bool,
+    from: Reached,
+) -> Reached
+    requires width { length other.now ≡ length numbers.old }
+    requires long { length jumps.now ≡ length numbers.old }
+    requires count { count ≤ length numbers.old }
+    requires skips { SkipsOnly (λ x. from.end ≤ x → IsQuotient s.now.divider.by s.now.factors.times s.now.factors.less
+        (number_at numbers.old x) (number_at other.now x) (number_at numbers.old x)) jumps.now }
+    requires small { SkipsOnly (λ x. from.end ≤ x → x < count → unsigned_abs (number_at numbers.old x) ≤ from.size)
+        jumps.now }
+    requires fit { fit ≡ true → (j : ℕ) → from.end ≤ j → j < count → AreFit s.now.factors.times s.now.factors.less
+        (unsigned_abs (number_at numbers.old j)) (unsigned_abs (number_at other.now j)) }
+    requires from { from.end ≤ count }
+    ensures after { from.end ≤ result.end }
+    ensures before { result.end ≤ count }
+    ensures divided { IsDividedPart numbers.old other.now s.now.factors.times s.now.factors.less s.now.divider.by
+        from.end result.end numbers.new }
+    ensures size { IsPartTopped from.end result.end numbers.new result.size }
+{
+    match &s.words {
+        Some(w) if fit => {
+            let way = FitStep::of(*w, s.divider);
+            divide_from(numbers, other, jumps, count, &way, from)
+        }
+        _ => divide_from(numbers, other, jumps, count, s, from),
+    }
+}
+
 /// Goes on with a step from a place at which its divisor is too great, divided by lesser numbers. Gives what it is
 /// divided by in the end. Gives up where a number doesn't fit.
 fn divide_on(
@@ -290,6 +441,7 @@ fn divide_on(
     jumps: &[u16],
     count: usize,
     s: &Step,
+    fit: bool,
     from: usize,
 ) -> Option<i128>
     requires width { length other.now ≡ length numbers.old }
@@ -298,6 +450,8 @@ fn divide_on(
     requires from { from < count }
     requires skips { SkipsOnly (λ x. (from ≤ x → number_at numbers.old x ≡ pos 0) × (number_at other.now x ≡ pos 0))
         jumps.now }
+    requires fit { fit ≡ true → (j : ℕ) → from ≤ j → j < count → AreFit s.now.factors.times s.now.factors.less
+        (unsigned_abs (number_at numbers.old j)) (unsigned_abs (number_at other.now j)) }
     ensures { IfSome result (λ by. IsDividedOn numbers.old other.now s.now.factors.times s.now.factors.less
         s.now.divider.by by from count numbers.new) }
 {
@@ -309,7 +463,7 @@ fn divide_on(
         by = lesser;
         let step = Step::of(s.factors, by);
         let from = Reached { end: j, size: 0 };
-        j = divide_from(numbers, other, jumps, count, &step, from).end;
+        j = divide_by(numbers, other, jumps, count, &step, fit, from).end;
         if count <= j {
             return Some(by);
         }
@@ -317,8 +471,19 @@ fn divide_on(
     None
 }
 
+/// Whether what a step makes of numbers of at most these sizes fits, before it is divided.
+pub fn fit(factors: Factors, own: u128, other: u128) -> bool
+    ensures { result ≡ true → AreFit factors.times factors.less own other }
+{
+    match step_under(1, factors, own, other) {
+        Some(_over) => true,
+        None => false,
+    }
+}
+
 /// Makes of the first numbers of a row k times themselves less t times those of another one, divided by a guess of what
-/// all have in common, or by a lesser number. `words`: both have words. Gives up where a number doesn't fit.
+/// all have in common, or by a lesser number. `words`: both have words. `fit`: what is divided fits. Gives up where a
+/// number doesn't fit.
 pub fn divide(
     numbers: &mut [i128],
     other: &[i128],
@@ -326,6 +491,7 @@ pub fn divide(
     count: usize,
     s: &Step,
     words: bool,
+    fit: bool,
 ) -> Option<Divided>
     requires width { length other.now ≡ length numbers.old }
     requires long { length jumps.now ≡ length numbers.old }
@@ -334,6 +500,8 @@ pub fn divide(
     requires other_jumps { AreJumps other.now jumps.now }
     requires words { words ≡ true → (j : ℕ) → j < count → AreWords (unsigned_abs (number_at numbers.old j))
         (unsigned_abs (number_at other.now j)) }
+    requires fit { fit ≡ true → (j : ℕ) → j < count → AreFit s.now.factors.times s.now.factors.less
+        (unsigned_abs (number_at numbers.old j)) (unsigned_abs (number_at other.now j)) }
     ensures ok { IfSome result (λ d. IsDividedPart numbers.old other.now s.now.factors.times s.now.factors.less d.by 0
         count numbers.new) }
     ensures top { IfSome result (λ d. IsPartTopped 0 count numbers.new d.top) }
@@ -341,7 +509,7 @@ pub fn divide(
     let from = Reached { end: 0, size: 0 };
     let reached = match &s.words {
         Some(w) if words => divide_from(numbers, other, jumps, count, w, from),
-        _ => divide_from(numbers, other, jumps, count, s, from),
+        _ => divide_by(numbers, other, jumps, count, s, fit, from),
     };
     if count <= reached.end {
         return Some(Divided {
@@ -349,7 +517,7 @@ pub fn divide(
             top: reached.size,
         });
     }
-    let by = divide_on(numbers, other, jumps, count, s, reached.end)?;
+    let by = divide_on(numbers, other, jumps, count, s, fit, reached.end)?;
     let top = top_of(numbers, count);
     Some(Divided { by, top })
 }

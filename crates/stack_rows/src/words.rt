@@ -2,6 +2,8 @@
 
 ghost use Rattle.std.specs.Prelude.{◌≡◌, ◌≤◌, ◌^◌, ◌-◌, ◌*◌, ◌*ℤ◌, true, IfSome};
 
+use num_traits::CheckedMul;
+
 /// The last 64 bits, each of them on.
 const LAST_BITS: u128 = u64::MAX as u128;
 
@@ -42,7 +44,7 @@ pub fn product(number: i128, by: i64) -> Option<i128>
     if word as i128 == number {
         Some(product)
     } else {
-        number.checked_mul(by as i128)
+        CheckedMul::checked_mul(&number, &(by as i128))
     }
 }
 
@@ -52,7 +54,7 @@ pub fn whole_product(a: i128, b: i128) -> Option<i128>
 {
     match word(b) {
         Some(word) => product(a, word),
-        None => a.checked_mul(b),
+        None => CheckedMul::checked_mul(&a, &b),
     }
 }
 
@@ -67,7 +69,7 @@ pub fn size_product(a: u128, b: u128) -> Option<u128>
     if left == a && right == b {
         Some(product)
     } else {
-        a.checked_mul(b)
+        CheckedMul::checked_mul(&a, &b)
     }
 }
 

@@ -1,6 +1,6 @@
 -- What the work returned and what was given out, against the ways through the work.
 use Rattle.std.proofs.Common.{◌≡◌, ℕ, ◌<◌, ◌≤◌, ◌⊎◌, inl, inr, List, [], ◌∷◌, Option, Some, None, Result}
-use Rattle.std.proofs.Common.{Ok, Err, OnErr, subst, sym, ap, refl, arith}
+use Rattle.std.proofs.Common.{Ok, Err, OnErr, subst, sym, ap, refl, arith, take, length}
 use Rattle.std.specs.Bool.{⊤}
 use Rattle.std.specs.Io.KnownBytes.{Appends, Keeps}
 use Rattle.stack_outside.specs.declared.error.SinkFailed.{SinkFailed}
@@ -17,13 +17,31 @@ use Rattle.stack_lines.specs.declared.refusal.Refusal.TheVariants as code
 use Rattle.stack_work.specs.Work.{reads}
 use Rattle.stack_work.specs.Progress.{Returns, Does}
 use Rattle.stack_work.proofs.Steps.{none_asked}
-use Rattle.stack_said.specs.Delivery.{SaysLine, TakesMemory, Delivers}
+use Rattle.stack_said.specs.Delivery.{SaysLine, TakesMemory, Delivers, with_line_feed}
+use Rattle.stack_lines.specs.Refusals.{refusal_line}
+use Rattle.stack_outside.specs.Seen.{StreamFailed}
+use Rattle.std.proofs.lemmas.List.{take_all}
 
--- An error stream that didn't fail took the whole line.
-pub line_put : (old new : Option (List ℕ)) (piece : List ℕ) (result : Result ⊤ SinkFailed) (P : Type 0)
+-- An error stream that didn't fail took the whole line, and a front of it in any case.
+line_whole : (old new : Option (List ℕ)) (piece : List ℕ) (result : Result ⊤ SinkFailed) (P : Type 0)
     → Puts old new piece result → OnErr result P → ¬ P → Appends old new piece
-line_put old new piece (Ok done) P puts cause not = puts
-line_put old new piece (Err e) P puts cause not = absurd (not cause)
+line_whole old new piece (Ok done) P puts cause not = puts
+line_whole old new piece (Err e) P puts cause not = absurd (not cause)
+
+line_front : (old new : Option (List ℕ)) (piece : List ℕ) (result : Result ⊤ SinkFailed)
+    → Puts old new piece result → (n : ℕ) × Appends old new (take n piece)
+line_front old new piece (Ok done) puts =
+    (length piece, subst (λ b. Appends old new b) (sym (take_all (length piece) piece (omega arith))) puts)
+line_front old new piece (Err e) puts = puts
+
+pub line_put : (r : Refusal) (err : StreamSeen) (piece : List ℕ) (result : Result ⊤ SinkFailed)
+    → Puts err.written err.written_after piece result → OnErr result (StreamFailed err)
+    → piece ≡ with_line_feed (refusal_line r) → SaysLine r err
+line_put r err piece result puts cause is = let f = line_front _ _ piece result puts in record {
+  whole = λ not. subst (λ b. Appends err.written err.written_after b) is (line_whole _ _ piece result _ puts cause not);
+  kept = f.0;
+  front = subst (λ b. Appends err.written err.written_after (take f.0 b)) is f.1;
+}
 
 -- A refusal was told, or memory for its line was wanting.
 told_as : (r q : CodeRefusal) → (q ≡ r) ⊎ (TakesMemory (refusal_view r) × (q ≡ code.Memory))

@@ -12,9 +12,11 @@ use Rattle.stack_lines.specs.Verdicts.{verdict_status}
 abbrev pub with_line_feed : List ℕ → List ℕ
 with_line_feed line = line ++ 10 ∷ []
 
--- The line of a refusal was written, where the error stream didn't fail.
-abbrev pub SaysLine : Refusal → StreamSeen → Type 0
-SaysLine r err = ¬ (StreamFailed err) → Took err (with_line_feed (refusal_line r))
+-- The line of a refusal was written, where the error stream didn't fail; and a front of it, whatever that did.
+pub record SaysLine (r : Refusal) (err : StreamSeen) : Type 0 where
+  pub whole : ¬ (StreamFailed err) → Took err (with_line_feed (refusal_line r))
+  pub kept : ℕ
+  pub front : Took err (take kept (with_line_feed (refusal_line r)))
 
 -- The answer was written whole, with its status, and the output's count of faults stays.
 pub record WritesAnswer (a : Answer) (status : ℕ) (out err : StreamSeen) : Type 0 where

@@ -72,7 +72,7 @@ fn told<S: Exact>(t: &Table<S>) -> Option<([(i128, i128); 2], [usize; 2], [bool;
     Some((
         [t.cell(0, 0).parts(), t.cell(0, 4).parts()],
         [t.basic(0), t.basic(1)],
-        [t.is_flipped(0), t.is_flipped(1)],
+        [t.flipped(0), t.flipped(1)],
     ))
 }
 

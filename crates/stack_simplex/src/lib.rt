@@ -33,7 +33,7 @@ mod refusal;
 pub use budget::enough;
 pub use refusal::RunError;
 use stack_rational::Exact;
-pub use stack_run::RunPlace;
+pub use stack_run::{RunPlace, RunPlace as Place};
 use stack_run::{budget_law, run_laws};
 use stack_table::Table;
 pub use stack_tableau::Ended;

@@ -17,6 +17,7 @@ mod types;
 
 pub use judging::stages;
 pub use laws::stages_laws;
+pub use stack_orders::{OrderError, read_order};
 pub use stage::stage_of;
 pub use text::write_stages;
 pub use types::{Outcome, Stages, StagesError};

@@ -9,6 +9,7 @@ ghost use Rattle.stack_stages.specs.StagesText.{CanPrintStages, falls_text as te
 
 use crate::types::Stages;
 use stack_certificate::{Certificate, Forces, Motion, write_certificate};
+use stack_whole::Decimal;
 use std::alloc::{AllocError, Global};
 use std::fmt::Write;
 
@@ -16,7 +17,7 @@ use std::fmt::Write;
 fn with_standing(mut text: String, number: usize) -> Result<String, AllocError>
     ensures { IfOk result (λ t. string_bytes t ≡ string_bytes text ++ stands_line number) }
 {
-    write!(text, "stage {number} stands\n")?;
+    write!(text, "stage {} stands\n", Decimal(number))?;
     Ok(text)
 }
 
@@ -38,7 +39,7 @@ fn falls_text(alloc: Global, before: &[Forces], motion: Motion) -> Result<Vec<u8
 {
     let count = before.len();
     let mut text = stand_lines(alloc, count)?;
-    let next = count + 1;
+    let next = Decimal(count + 1);
     write!(text, "stage {next} collapses\n")?;
     let mut bytes = text.into_bytes();
     let certificate = write_certificate(alloc, &Certificate::Collapses(motion))?;

@@ -149,7 +149,7 @@ impl<S: Exact> Table<S> {
     }
 
     /// Whether a row was flipped.
-    pub fn is_flipped(&self, i: usize) -> bool
+    pub fn flipped(&self, i: usize) -> bool
         requires { i < (shape_of_table self.now).rows }
         ensures { result ≡ flips_of self.now i }
     {

@@ -89,7 +89,7 @@ impl<S: Exact> LastTable for Table<S> {
     }
 
     fn is_flipped(&self, i: usize) -> bool {
-        self.is_flipped(i)
+        self.flipped(i)
     }
 
     fn right(&self, i: usize) -> Frac<i128> {

@@ -10,11 +10,13 @@
 //! ```
 #![tactic(auto)]
 
+mod decimal;
 mod demands;
 mod laws;
 mod limits;
 mod whole;
 
+pub use decimal::Decimal;
 pub use demands::unless;
 pub use laws::fitting_law;
 pub use limits::{GREATEST_WEIGHT, MOST_BEARINGS, MOST_CONTACT_COLUMNS, MOST_FREE, MOST_ROWS};

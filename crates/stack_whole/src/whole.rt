@@ -3,6 +3,8 @@
 ghost use Rattle.std.specs.Prelude.{◌≡◌, ◌+ℤ◌, ◌*ℤ◌, ◌-ℤ◌, pos, nat_abs};
 ghost use Rattle.stack_whole.specs.Whole.{made, made_or_wide, whole};
 
+use num_traits::{CheckedAdd, CheckedMul, CheckedNeg, CheckedSub};
+
 /// A result is more than 2^127 - 1 in size.
 #[derive(Clone, Copy, Debug, PartialEq, Eq)]
 pub struct Wide;
@@ -50,21 +52,21 @@ impl Whole {
     pub fn product(self, other: Whole) -> Result<Whole, Wide>
         ensures { result ≡ made (self.value *ℤ other.value) }
     {
-        keep(self.value.checked_mul(other.value))
+        keep(CheckedMul::checked_mul(&self.value, &other.value))
     }
 
     /// The sum of both. `Wide` exactly where it is more than 2^127 - 1 in size.
     pub fn sum(self, other: Whole) -> Result<Whole, Wide>
         ensures { result ≡ made (self.value +ℤ other.value) }
     {
-        keep(self.value.checked_add(other.value))
+        keep(CheckedAdd::checked_add(&self.value, &other.value))
     }
 
     /// This number less the other. `Wide` exactly where the difference is more than 2^127 - 1 in size.
     pub fn difference(self, other: Whole) -> Result<Whole, Wide>
         ensures { result ≡ made (self.value -ℤ other.value) }
     {
-        keep(self.value.checked_sub(other.value))
+        keep(CheckedSub::checked_sub(&self.value, &other.value))
     }
 
     /// The size of this number. `Wide` exactly where it is more than 2^127 - 1.
@@ -72,7 +74,7 @@ impl Whole {
         ensures { result ≡ made (pos (nat_abs self.value)) }
     {
         if self.value < 0 {
-            keep(self.value.checked_neg())
+            keep(CheckedNeg::checked_neg(&self.value))
         } else {
             keep(Some(self.value))
         }

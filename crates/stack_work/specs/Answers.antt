@@ -1,11 +1,11 @@
 -- What is due on standard output, by its meaning, and which bytes are that answer, with which verdict. A further kind
 -- of answer is a further case of both.
-use Rattle.std.specs.Prelude.{◌≡◌, ℕ, ◌≤◌, ℤ, Bool, List, Ok, length}
+use Rattle.std.specs.Prelude.{◌≡◌, ℕ, ◌≤◌, ◌<◌, ℤ, Bool, List, Ok, length}
 use Rattle.stack_model.specs.Structure.{Structure}
 use Rattle.stack_reader.specs.Reading.{structure_of}
 use Rattle.stack_contact.specs.Surveyed.{Surveyed}
 use Rattle.stack_certificate.specs.Certificate.{CertificateValue, stands, collapses, greatest, unbounded}
-use Rattle.stack_certificate.specs.CertificateText.{IsCertificateText}
+use Rattle.stack_certificate.specs.CertificateText.{IsCertificateText, text_bound}
 use Rattle.stack_equilibrium.specs.declared.types.Question.{Question}
 use Rattle.stack_equilibrium.specs.declared.types.Question.TheVariants.{Live}
 use Rattle.stack_judge.specs.Judged.{IsJudged}
@@ -64,6 +64,7 @@ pub record IsCertificateOf (q : Question) (v : Surveyed) (c : CertificateValue) 
   pub judged : IsJudged q v c
   pub is_verdict : verdict ≡ verdict_of c
   pub is_text : IsCertificateText c text
+  pub is_short : length text < text_bound
 
 -- The certificate is true and answers the question about live loads, and the bytes are its summary.
 pub record IsSummaryOf (number : ℕ) (v : Surveyed) (c : CertificateValue) (narrow : Bool) (verdict : Verdict)

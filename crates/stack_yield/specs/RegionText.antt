@@ -24,11 +24,14 @@ abbrev pub direction_line : ReachValue → List ℕ
 direction_line r = codes "dir " ++ signed_decimal r.m ++ codes " " ++ signed_decimal r.n ++ codes " "
     ++ distance_text r.point
 
+-- the numbers of a half-plane, with a space between two
+unfoldable pub half_text : HalfValue → List ℕ
+half_text h = signed_decimal h.0 ++ codes " " ++ signed_decimal h.1 ++ codes " " ++ signed_decimal h.2
+
 -- the line of a half-plane, where there is one
 abbrev pub half_line : Option HalfValue → List ℕ
 half_line None = []
-half_line (Some h) = codes "half " ++ signed_decimal h.0 ++ codes " " ++ signed_decimal h.1 ++ codes " "
-    ++ signed_decimal h.2 ++ codes "\n"
+half_line (Some h) = codes "half " ++ half_text h ++ codes "\n"
 
 -- the lines of a reach
 abbrev pub reach_text : ReachValue → List ℕ

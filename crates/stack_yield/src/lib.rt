@@ -18,5 +18,6 @@ mod types;
 
 pub use gathering::region;
 pub use laws::directions_laws;
+pub use stack_directions::{DirectionsError, LoadPair, NoPair, directed, pair, read_directions};
 pub use text::write_region;
 pub use types::{Reach, Region, RegionError, RegionPlace};

@@ -1,16 +1,38 @@
 //! A region as text.
 
-ghost use Rattle.std.specs.Prelude.{◌≡◌, ◌++◌, IfOk, length, map, string_bytes};
+ghost use Rattle.std.specs.Prelude.{◌≡◌, ◌++◌, IfOk, Some, length, map, string_bytes};
 ghost use Rattle.stack_yield.specs.Kept.{reach_view, region_view};
 ghost use Rattle.stack_yield.specs.RegionText.{ratio_of, distance_text, direction_line, half_line, reach_text};
-ghost use Rattle.stack_yield.specs.RegionText.{reach_lines, region_line, region_text, CanPrintRegion};
+ghost use Rattle.stack_yield.specs.RegionText.{reach_lines, region_line, region_text, half_text, CanPrintRegion};
 ghost use Rattle.stack_pairs.specs.Reaches.{points};
 
 use crate::types::{Reach, Region};
 use stack_certificate::{Certificate, write_certificate};
 use stack_report::Ratio;
+use stack_whole::Decimal;
 use std::alloc::{AllocError, Global};
-use std::fmt::Write;
+use std::fmt::{self, Write};
+
+/// The numbers of a half-plane.
+#[derive(Clone, Copy)]
+struct HalfPlane {
+    numbers: (i128, i128, i128),
+}
+
+impl fmt::Display for HalfPlane {
+    ghost output = { λ h. Some (half_text h.numbers) };
+
+    #[tactic(auto, unfolding(crate::specs::RegionText::half_text))]
+    fn fmt<W: fmt::Write>(&self, f: &mut fmt::Formatter<W>) -> fmt::Result {
+        write!(
+            f,
+            "{} {} {}",
+            Decimal(self.numbers.0),
+            Decimal(self.numbers.1),
+            Decimal(self.numbers.2)
+        )
+    }
+}
 
 /// A coordinate of a point.
 fn ratio(coordinate: &(i128, i128)) -> Ratio
@@ -41,7 +63,7 @@ fn with_distance(mut text: String, reach: &Reach) -> Result<String, AllocError>
 fn with_direction(mut text: String, reach: &Reach) -> Result<String, AllocError>
     ensures { IfOk result (λ t. string_bytes t ≡ string_bytes text ++ direction_line (reach_view reach.now)) }
 {
-    write!(text, "dir {} {} ", reach.m, reach.n)?;
+    write!(text, "dir {} {} ", Decimal(reach.m), Decimal(reach.n))?;
     with_distance(text, reach)
 }
 
@@ -50,7 +72,8 @@ fn with_half(mut text: String, reach: &Reach) -> Result<String, AllocError>
     ensures { IfOk result (λ t. string_bytes t ≡ string_bytes text ++ half_line (reach_view reach.now).half) }
 {
     if let Some(half) = &reach.half {
-        write!(text, "half {} {} {}\n", half.0, half.1, half.2)?;
+        let numbers = HalfPlane { numbers: *half };
+        write!(text, "half {numbers}\n")?;
     }
     Ok(text)
 }
@@ -78,7 +101,7 @@ fn with_reaches(text: String, reaches: &[Reach]) -> Result<String, AllocError>
 fn reaches_text(alloc: Global, reaches: &[Reach]) -> Result<String, AllocError>
     ensures { IfOk result (λ t. string_bytes t ≡ region_text (points (map reach_view reaches.now))) }
 {
-    let head = format!(in alloc; "region {}\n", reaches.len())?;
+    let head = format!(in alloc; "region {}\n", Decimal(reaches.len()))?;
     with_reaches(head, reaches)
 }
 

@@ -9,7 +9,7 @@ ghost use Rattle.stack_work.specs.Judging.{wide_within, judged, judge_work};
 ghost use Rattle.stack_work.specs.Progress.{Does, DoesAlone, AnswersDue};
 
 use crate::surveying::survey_file;
-use stack_certificate::{Certificate, write_certificate};
+use stack_certificate::{Certificate, short_text, write_certificate};
 use stack_contact::Survey;
 use stack_equilibrium::Question;
 use stack_judge::{JudgeError, JudgePlace, judge};
@@ -56,6 +56,7 @@ fn judge_survey(
     requires { budget ≢ 0 }
     ensures { DoesAlone AnswersDue (judged question budget survey.now) result }
 {
+    short_text();
     match judge(alloc, survey, question, budget) {
         Ok(certificate) => Ok(Answer {
             verdict: verdict_of(&certificate),

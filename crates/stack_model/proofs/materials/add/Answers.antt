@@ -1,9 +1,10 @@
-use Rattle.std.proofs.Common.{rules, SFits, w64, to_z-of_z, pos, sym, subst, ap, ◌∙◌}
+use Rattle.std.proofs.Common.{rules, map, SFits, w64, to_z-of_z, pos, sym, subst, ap, ◌∙◌}
 use Rattle.stack_whole.specs.Limits.{greatest_weight}
 use Rattle.stack_model.specs.declared.places.Spot.TheVariants as spots
 use Rattle.stack_model.specs.declared.places.Key.TheVariants as keys
 use Rattle.stack_model.specs.declared.errors.ModelError.TheVariants.{Range}
 use Rattle.stack_model.specs.Structure.{NamedMaterial}
+use Rattle.stack_model.specs.Kept.{material_view}
 use Rattle.stack_model.specs.Gives.{Fails, Gives}
 use Rattle.stack_model.specs.Limits.{is_name, is_between, friction_of}
 use Rattle.stack_whole.specs.Demands.{unless}
@@ -11,18 +12,18 @@ use Rattle.stack_model.specs.Content.{ranged, with_material, add_material}
 use Rattle.stack_model.proofs.Chains.{fails_as, any_fails, later_fails, later_gives, refused}
 use Rattle.stack_model.proofs.materials.add.Goals as goal
 
-pub returns-in_err-unless : goal.returns-in_err-unless
+pub returns-in_err-unless-clause-value : goal.returns-in_err-unless-clause-value
 unfolding add_material
-returns-in_err-unless c =
+returns-in_err-unless-clause-value c =
     let e = c.in_err-unless.field-0.0 in
     let s = spots.Material c.args.index in
     refused _ e c.from_residual.result _ c.from_residual.ensures.1
     (any_fails e _ _ (subst (λ b. Fails e (unless b (Range s keys.Name)))
     (c.is_name.ensures ∙ ap is_name c.as_str.ensures.value) (fails_as e (sym c.in_err-unless.ensures))))
 
-pub returns-in_err-unless-2 : goal.returns-in_err-unless-2
+pub returns-in_err-unless-2-clause-value : goal.returns-in_err-unless-2-clause-value
 unfolding add_material
-returns-in_err-unless-2 c =
+returns-in_err-unless-2-clause-value c =
     let e = c.in_err-unless-2.field-0.0 in
     let s = spots.Material c.args.index in
     let fits : SFits w64 c.args.raw.now.weight = search rules in
@@ -33,9 +34,9 @@ returns-in_err-unless-2 c =
     (c.is_between.ensures ∙ ap (is_between (pos 0) greatest_weight) (to_z-of_z fits))
     (fails_as e (sym c.in_err-unless-2.ensures)))))
 
-pub returns-in_err-p : goal.returns-in_err-p
+pub returns-in_err-p-clause-value : goal.returns-in_err-p-clause-value
 unfolding add_material
-returns-in_err-p c =
+returns-in_err-p-clause-value c =
     let e = c.in_err-p.field-0.0 in
     let s = spots.Material c.args.index in
     let fits : SFits w64 c.args.raw.now.weight = search rules in
@@ -47,9 +48,9 @@ returns-in_err-p c =
     (any_fails e _ _ (subst (λ ns. Fails e (ranged s keys.Friction (friction_of ns))) c.as_slice.ensures.value
     c.in_err-p.ensures))))
 
-pub returns : goal.returns
+pub returns-clause-value : goal.returns-clause-value
 unfolding add_material
-returns c =
+returns-clause-value c =
     let s = spots.Material c.args.index in
     let raw = c.args.raw.now in
     let fits : SFits w64 raw.weight = search rules in
@@ -57,14 +58,15 @@ returns c =
     let fits_q : SFits w64 c.in_ok-p.q = search rules in
     let name = c.is_name.ensures ∙ ap is_name c.as_str.ensures.value in
     let weight = c.is_between.ensures ∙ ap (is_between (pos 0) greatest_weight) (to_z-of_z fits) in
-    later_gives _ c.with.result _ (ap (λ b. unless b (Range s keys.Name)) (sym name) ∙ sym c.in_ok-unless.ensures)
-    (later_gives _ c.with.result _
+    later_gives _ c.keep.result _ (ap (λ b. unless b (Range s keys.Name)) (sym name) ∙ sym c.in_ok-unless.ensures)
+    (later_gives _ c.keep.result _
     (ap (λ b. unless b (Range s keys.Weight)) (sym weight) ∙ sym c.in_ok-unless-2.ensures)
-    (later_gives _ c.with.result _
+    (later_gives _ c.keep.result _
     (ap (λ ns. ranged s keys.Friction (friction_of ns)) (sym c.as_slice.ensures.value) ∙ c.in_ok-p.ensures)
-    (subst (λ (m : NamedMaterial). Gives (λ m. m) c.with.result (with_material s m c.args.so_far)) (λ j. record {
+    (subst (λ (m : NamedMaterial). Gives (λ _. map material_view c.keep.new.kept.items) c.keep.result
+    (with_material s m (map material_view c.args.kept.now.items))) (λ j. record {
       name = c.as_str-2.ensures.value j;
       weight = to_z-of_z fits j;
       p = to_z-of_z fits_p j;
       q = to_z-of_z fits_q j;
-    }) c.with.ensures)))
+    }) c.keep.ensures.value)))

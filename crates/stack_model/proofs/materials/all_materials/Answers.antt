@@ -3,16 +3,19 @@ use Rattle.stack_model.specs.Content.{add_material}
 use Rattle.stack_model.proofs.Followed.{follows, stops, ended}
 use Rattle.stack_model.proofs.materials.all_materials.Goals as goal
 
-pub returns-in_err-so_far : goal.returns-in_err-so_far
-returns-in_err-so_far c = stops add_material raw_material c.args.raws.now c.loop-index.index _ _ _
+pub returns-in_err-add : goal.returns-in_err-add
+returns-in_err-add c = stops add_material raw_material c.args.raws.now c.loop-index.index _ _ _
     c.index-raws-index.result _ _ c.from_residual.ensures.1
-    c.loop-index-test.true c.index-raws-index.is c.in_err-so_far.ensures c.loop-index.invariant
+    c.loop-index-test.true c.index-raws-index.is c.in_err-add.ensures.value c.loop-index.invariant.1
 
 pub loop-index-preserved : goal.loop-index-preserved
-loop-index-preserved c = follows add_material raw_material c.args.raws.now c.loop-index.index
-    c.index-raws-index.result _ _ _
-    c.loop-index-test.true c.index-raws-index.is c.in_ok-so_far.ensures c.loop-index.invariant
+loop-index-preserved c = (
+  c.in_ok-add.ensures.names,
+  follows add_material raw_material c.args.raws.now
+      c.loop-index.index c.index-raws-index.result _ _ _
+      c.loop-index-test.true c.index-raws-index.is c.in_ok-add.ensures.value c.loop-index.invariant.1,
+)
 
 pub returns : goal.returns
 returns c = ended add_material raw_material c.args.raws.now c.loop-index.index _ _ c.loop-index-test.false
-    c.loop-index.invariant
+    c.loop-index.invariant.1

@@ -10,7 +10,7 @@ returns-clause-ok c =
     let f = c.args.s.now.factors in
     let old = c.args.numbers.now in
     let pivot = c.args.other.now.numbers.items in
-    let xs = c.divide.new.numbers in
+    let xs = c.first_after.new.numbers in
     let j = c.in_ok-count.count in
     let x : ℤ = to_z w128 (of_z w128 c.in_ok-numbers.field-0) in
     let long : length old ≡ j + 1 = omega (arith, c.in_ok-count.ensures) in
@@ -18,7 +18,7 @@ returns-clause-ok c =
     let other : SFits w128 (number_at pivot j) = search rules in
     let number : SFits w128 c.in_ok-numbers.field-0 = search rules in
     let by : SFits w128 d.by = search rules in
-    let written = rw c.as_slice-pivot.ensures.value at c.in_ok-divided.ensures.ok in
+    let written = c.in_ok-divided.ensures.ok in
     let here : IsQuotient d.by f.times f.less (number_at old j) (number_at pivot j) x = cc (
       to_z-of_z own,
       to_z-of_z other,
@@ -28,15 +28,9 @@ returns-clause-ok c =
       written.after j (omega arith),
       c.in_ok-numbers.ensures,
     ) in
-    rw long (written_more xs x (omega arith) (omega (arith, c.divide.auto.numbers)) written here)
+    rw long (written_more xs x (omega arith) (omega (arith, c.first_after.auto.numbers)) written here)
 
 pub returns-clause-top : goal.returns-clause-top
-returns-clause-top c = topped_before c.divide.new.numbers c.in_ok-count.count
-    (to_z w128 (of_z w128 c.in_ok-numbers.field-0)) (omega (arith, c.in_ok-count.ensures, c.divide.auto.numbers))
+returns-clause-top c = topped_before c.first_after.new.numbers c.in_ok-count.count
+    (to_z w128 (of_z w128 c.in_ok-numbers.field-0)) (omega (arith, c.in_ok-count.ensures, c.first_after.auto.numbers))
     c.in_ok-divided.ensures.top
-
-pub divide-requires-clause-width : goal.divide-requires-clause-width
-divide-requires-clause-width c = rw c.as_slice-pivot.ensures.value c.requires.beside.width
-
-pub divide-requires-clause-other_jumps : goal.divide-requires-clause-other_jumps
-divide-requires-clause-other_jumps c = rw c.as_slice-pivot.ensures.value c.requires.other_jumps

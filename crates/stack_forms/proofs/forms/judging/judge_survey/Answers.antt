@@ -1,4 +1,5 @@
-use Rattle.std.proofs.Common.{Err, subst, ap, inl, refl}
+use Rattle.std.proofs.Common.{Err, subst, sym, ap, inl, refl, length, ◌<◌}
+use Rattle.stack_certificate.specs.CertificateText.{text_bound}
 use Rattle.stack_judge.specs.Judgement.{Judges, certified, too_wide, spent}
 use Rattle.stack_certificate.specs.Certificate.{certificate_view}
 use Rattle.stack_work.specs.Answers.{certificate}
@@ -17,6 +18,8 @@ returns-in_ok-write_certificate-in-Ok c holds = (
     judged = c.in-Ok.ensures.judged;
     is_verdict = c.verdict_of.ensures;
     is_text = c.in_ok-write_certificate-in-Ok.ensures;
+    is_short = subst (λ t. length t < text_bound) (sym c.in_ok-write_certificate-in-Ok.ensures.is)
+        (c.short_text.ensures _ c.in-Ok.ensures.judged.fits c.in-Ok.ensures.judged.few);
   },
   ends_giving holds (judged_is c.args.question c.args.survey.now c.args.budget
       (certified (certificate_view c.in-Ok.certificate)) c.in-Ok.ensures.judges.0 c.in-Ok.ensures.judges.1),
