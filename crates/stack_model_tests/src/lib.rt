@@ -7,6 +7,8 @@ mod frame;
 #[cfg(test)]
 mod model;
 #[cfg(test)]
+mod models;
+#[cfg(test)]
 mod outlines;
 #[cfg(test)]
 mod outside;

@@ -84,6 +84,8 @@ fn one_body_holds_at_8_64_and_128_bits(rt: HostRuntime) {
 fn rows_at_8_bits(rt: HostRuntime) {
     let found = [
         answer::<Frac<i8>>(Op::Whole, -128, 1, 1, 1),
+        answer::<Frac<i8>>(Op::Sum, 100, 1, 100, 1),
+        answer::<Frac<i8>>(Op::Difference, -100, 1, 100, 1),
         answer::<Frac<i8>>(Op::Sum, 1, 127, 1, 126),
         answer::<Frac<i8>>(Op::Sum, 65, 2, 65, 2),
         answer::<Frac<i8>>(Op::Sum, 1, 6, 1, 10),
@@ -92,6 +94,8 @@ fn rows_at_8_bits(rt: HostRuntime) {
     ];
     let wanted = [
         Err(OpWide { op: Op::Whole }),
+        Err(OpWide { op: Op::Sum }),
+        Err(OpWide { op: Op::Difference }),
         Err(OpWide { op: Op::Sum }),
         Err(OpWide { op: Op::Sum }),
         Ok((4, 15)),
@@ -113,6 +117,14 @@ fn scaled(
     Some((common_scale(&[left, right]), at_scale))
 }
 
+/// The common scale of a half, a third and five sixths.
+fn scale_of_three() -> Option<Result<i128, ScaleWide>> {
+    let half = fraction::<Frac<i128>>(1, 2)?;
+    let third = fraction::<Frac<i128>>(1, 3)?;
+    let rest = fraction::<Frac<i128>>(5, 6)?;
+    Some(common_scale(&[half, third, rest]))
+}
+
 #[test]
 fn a_list_has_a_common_scale(rt: HostRuntime) {
     let wide = Err(ScaleWide { index: 1 });
@@ -121,6 +133,7 @@ fn a_list_has_a_common_scale(rt: HostRuntime) {
         scaled((1, i128::MAX), (1, 2), i128::MAX),
     ];
     assert!(rt; found == [Some((Ok(12), Some(9))), Some((wide, Some(1)))]);
+    assert!(rt; scale_of_three() == Some(Ok(6)));
     assert!(rt; common_scale(&[]) == Ok(1));
 }
 

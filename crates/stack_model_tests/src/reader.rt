@@ -1,6 +1,7 @@
 //! A model's file is read, and written so that it is read back; one fault of each kind is named. The other faults and
 //! spellings are rows of the examples.
 
+use crate::models::{MODELS, Named};
 use stack_model::{Key, Model, ModelError, Spot};
 use stack_reader::{ReadError, read_model, write_model};
 use std::alloc::Global;
@@ -85,6 +86,26 @@ fn a_written_model_is_read_back(rt: HostRuntime) {
         is_told_and_read_back(alloc, &[HEAD, POST, JOINT], joint),
     ];
     assert!(rt; found == [true; 2]);
+}
+
+fn are_read_back(alloc: Global, pieces: &[&str]) -> Option<bool> {
+    let text = pieces.concat(alloc).ok()?;
+    is_read_back(alloc, text.as_bytes())
+}
+
+/// The first model that isn't read back as it was written.
+fn changed(alloc: Global, models: &[Named]) -> Option<&'static str> {
+    for model in models {
+        if are_read_back(alloc, model.pieces) != Some(true) {
+            return Some(model.name);
+        }
+    }
+    None
+}
+
+#[test]
+fn a_model_of_each_kind_is_read_back(rt: HostRuntime) {
+    assert!(rt; changed(rt.alloc(), MODELS).is_none());
 }
 
 fn is_fault(alloc: Global, text: &[u8], wanted: ReadError) -> bool {

@@ -1,7 +1,7 @@
 //! The program over devices in memory: each form once, the words as the runtime gives them, and devices that fail. All
 //! other rows are run on the real disk by the examples.
 
-use stack_cli::{Given, run_given};
+use stack_cli::{Given, run, run_given};
 use stack_outside::{MemoryShelf, MemorySink};
 use std::alloc::Global;
 use std::test::*;
@@ -568,4 +568,35 @@ fn are_refused(alloc: Global) -> [bool; 2] {
 #[test]
 fn words_are_taken_as_the_runtime_gives_them(rt: HostRuntime) {
     assert!(rt; are_refused(rt.alloc()) == [true; 2]);
+}
+
+/// Whether the top call tells this over the shelf and this output.
+fn runs_on(
+    alloc: Global,
+    words: &[String],
+    shelf: &mut MemoryShelf,
+    out: &mut MemorySink,
+    told: &Told,
+) -> bool {
+    match sink(alloc, &[], 100) {
+        Some(mut err) => {
+            let status = run(alloc, words, shelf, out, &mut err);
+            is_told(status, out, &err, told)
+        }
+        None => false,
+    }
+}
+
+/// The top call by itself: forces that carry the post are accepted.
+fn accepts(alloc: Global) -> Option<bool> {
+    let words = strings(alloc, CHECK)?;
+    let mut shelf = shelf(alloc, CARRIED, &[])?;
+    let mut out = sink(alloc, &[], 100)?;
+    let told = told_of(&Answer::Says(0, "accepted\n"));
+    Some(runs_on(alloc, words.as_slice(), &mut shelf, &mut out, &told))
+}
+
+#[test]
+fn the_top_call_is_asked_by_itself(rt: HostRuntime) {
+    assert!(rt; accepts(rt.alloc()) == Some(true));
 }

@@ -5,9 +5,10 @@ ghost use Rattle.std.specs.Prelude.{◌≢◌};
 use crate::drawings::{PUSHED, surveyed};
 use crate::problems::ended;
 use stack_certificate::Certificate;
-use stack_contact::Survey;
+use stack_contact::{Survey, survey};
 use stack_equilibrium::Question;
 use stack_judge::{JudgeError, judge, judge_marked};
+use stack_overhang::wall;
 use stack_rational::Frac;
 use std::alloc::Global;
 use std::test::*;
@@ -118,4 +119,24 @@ fn a_post_is_narrow_and_the_greatest_block_is_not(rt: HostRuntime) {
     let alloc = rt.alloc();
     let found = [post_mark(alloc), block_mark(alloc)];
     assert!(rt; found == [Some(true), Some(false)]);
+}
+
+/// The mark of a survey's greatest factor, and whether a plain run at 64 bits ends.
+fn mark_and_end(alloc: Global, s: &Survey) -> (Option<bool>, bool) {
+    (
+        mark(alloc, s, Question::Live, "greatest"),
+        ends_at_64_bits(alloc, s),
+    )
+}
+
+/// The same of the first built-in wall.
+fn wall_mark_and_end(alloc: Global) -> Option<(Option<bool>, bool)> {
+    let model = wall(alloc, 0).ok()?;
+    let s = survey(alloc, model).ok()?;
+    Some(mark_and_end(alloc, &s))
+}
+
+#[test]
+fn the_mark_of_the_first_wall_tells_that_a_plain_run_at_64_bits_ends(rt: HostRuntime) {
+    assert!(rt; wall_mark_and_end(rt.alloc()) == Some((Some(true), true)));
 }
