@@ -62,11 +62,13 @@ from enum import Enum
 from fractions import Fraction
 from math import atan, atan2, cos, degrees, hypot, radians, sin, sqrt, tan
 
-from bench import Refused, Words, answer, ran, shown, whole
-from fill import filled, weigh
-from model import Model, printed, read, text_of
-from outside import Laid, Piece, Side, between, open_pieces, with_loads
-from units import Scale, decimal, scale_of
+from masonry.console import Refused, Words, ran, shown
+from masonry.fill import filled, weigh
+from masonry.model import Model, printed, read, text_of
+from masonry.numbers import decimal, whole
+from masonry.open_faces import Laid, Piece, Side, between, open_pieces, with_loads
+from masonry.program import answer
+from masonry.units import Scale, scale_of
 
 NEAR = 1.0  # how far the corners of one back may lie off its line
 HIGHEST = Fraction(2, 3)  # of the height of the back: where the increment of the pressure may act

@@ -26,10 +26,11 @@ from dataclasses import dataclass
 from fractions import Fraction
 from math import ceil, sqrt
 
-from bench import Words, answer, ran
-from model import Bearing, Block, Model, Point, bearings_of, read, twice_area
-from outside import edges, minus
-from units import decimal, number
+from masonry.console import Words, ran
+from masonry.model import Bearing, Block, Model, Point, bearings_of, read, twice_area
+from masonry.numbers import decimal, number
+from masonry.open_faces import edges, minus
+from masonry.program import answer
 
 
 @dataclass(frozen=True)

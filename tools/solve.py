@@ -58,18 +58,14 @@ from collections.abc import Callable
 from dataclasses import replace
 from fractions import Fraction
 
-import bench
-import between
-import model as models
-import ranges
-import settle
-import slides
-import stages
-from bench import Answer, Ended, Progress, Refused, Words
-from model import Model
-from programs import MISSING
-from settle import Case
-from units import scale_of
+from masonry import console, model as models, program
+from masonry.console import Answer, Ended, Progress, Refused, Words
+from masonry.lp.programs import MISSING
+from masonry.model import Model
+from masonry.numbers import fraction, whole
+from masonry.questions import between, ranges, results, slides, stages
+from masonry.questions.case import Case
+from masonry.units import scale_of
 
 NO_LIVE = Answer(9, "", "no live load")
 MICRO = 2  # how far two shares may be apart, in millionths, if no number is given
@@ -85,7 +81,7 @@ def stand(name: str, words: list[str], progress: Progress) -> int:
 
 def load(name: str, words: list[str], progress: Progress) -> int:
     case = live_case(name, counted(words, "load CERT [MICRO]", 1, 2), progress)
-    return 0 if settle.whole(case.load()) else 70
+    return 0 if results.is_whole(case.load()) else 70
 
 
 def wide_range(name: str, words: list[str], progress: Progress) -> int:
@@ -98,7 +94,7 @@ def wide_between(name: str, words: list[str], progress: Progress) -> int:
     kind = rest[0] if rest else ""
     if len(rest) not in {"": (0,), "tie": (7, 9), "prop": (6, 8)}.get(kind, ()):
         raise Words("the form is MODEL between CERT [tie A X Y B U V [N D]] or [prop A X Y U V [N D]]")
-    bench.answer("contacts", name)
+    program.answer("contacts", name)
     model = models.read(name)
     if kind:
         question = tie_or_prop(model, kind, rest[1:])
@@ -113,14 +109,14 @@ def wide_between(name: str, words: list[str], progress: Progress) -> int:
 def tie_or_prop(model: Model, kind: str, words: list[str]) -> between.Question:
     """The question of the words after `tie` or `prop`."""
     count = 6 if kind == "tie" else 5
-    share = bench.fraction(words[count], words[count + 1]) if words[count:] else Fraction(0)
+    share = fraction(words[count], words[count + 1]) if words[count:] else Fraction(0)
     if kind == "tie":
         return between.tie(model, (words[0], words[3]), (point(words[1:3], "X Y"), point(words[4:6], "U V")), share)
     return between.prop(model, words[0], point(words[1:3], "X Y"), point(words[3:5], "U V"), share)
 
 
 def point(words: list[str], called: str) -> list[int]:
-    return [bench.whole(word, one, -models.COORDINATE, models.COORDINATE)
+    return [whole(word, one, -models.COORDINATE, models.COORDINATE)
             for word, one in zip(words, called.split())]
 
 
@@ -132,7 +128,7 @@ def wide_stages(name: str, words: list[str], progress: Progress) -> int:
 
 def wide_slides(name: str, words: list[str], progress: Progress) -> int:
     counted(words, "slides [N D]", 0, 2)
-    wanted = bench.fraction(words[0], words[1]) if words else None
+    wanted = fraction(words[0], words[1]) if words else None
     if wanted is not None and wanted < 0:
         raise Words("N must be at least 0")
     slides.slides(name, wanted, progress)
@@ -141,7 +137,7 @@ def wide_slides(name: str, words: list[str], progress: Progress) -> int:
 
 def live_case(name: str, words: list[str], progress: Progress) -> Case:
     """A model with a live load, and where its certificate goes."""
-    micro = bench.whole(words[1], "MICRO", 1, 10**6) if words[1:] else MICRO
+    micro = whole(words[1], "MICRO", 1, 10**6) if words[1:] else MICRO
     case = Case(name, words[0], progress, part=Fraction(micro, 2 * 10**6))
     case.structure
     if not case.model.has_live():
@@ -187,7 +183,7 @@ def asked(words: list[str]) -> int:
 
 
 def main(words: list[str]) -> int:
-    return bench.ran(asked, "solve", __doc__, words)
+    return console.ran(asked, "solve", __doc__, words)
 
 
 if __name__ == "__main__":

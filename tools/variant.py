@@ -45,10 +45,12 @@ from collections.abc import Callable
 from dataclasses import dataclass, replace
 from fractions import Fraction
 
-from bench import Refused, Words, answer, ran, shown, whole
-from inset import inset
-from model import COORDINATE, FORCE, LOADS, Load, Model, bearings_of, multiple, printed, read, share, text_of
-from units import Scale, decimal, scale_of
+from masonry.console import Refused, Words, ran, shown
+from masonry.inset import inset
+from masonry.model import COORDINATE, FORCE, LOADS, Load, Model, bearings_of, multiple, printed, read, share, text_of
+from masonry.numbers import decimal, whole
+from masonry.program import answer
+from masonry.units import Scale, scale_of
 
 MOST = 10**9  # a number of a share or of a direction
 
