@@ -52,9 +52,11 @@ program, which is else the script `pungiroe` in the folder above this one. Pytho
 docs/other_solvers.md explains the method.
 """
 import os
+import re
 import shutil
 import sys
-from collections.abc import Callable
+from collections.abc import Callable, Iterator, Sequence
+from contextlib import contextmanager, nullcontext
 from dataclasses import replace
 from fractions import Fraction
 
@@ -73,9 +75,8 @@ MICRO = 2  # how far two shares may be apart, in millionths, if no number is giv
 
 def stand(name: str, words: list[str], progress: Progress) -> int:
     cert, = counted(words, "stand CERT", 1)
-    case = Case(name, cert, progress)
-    case.structure  # so that what the program refuses is its refusal
-    case.stand()
+    accepted(name)
+    Case(name, cert, progress).stand()
     return 0
 
 
@@ -94,7 +95,7 @@ def wide_between(name: str, words: list[str], progress: Progress) -> int:
     kind = rest[0] if rest else ""
     if len(rest) not in {"": (0,), "tie": (7, 9), "prop": (6, 8)}.get(kind, ()):
         raise Words("the form is MODEL between CERT [tie A X Y B U V [N D]] or [prop A X Y U V [N D]]")
-    program.answer("contacts", name)
+    accepted(name)
     model = models.read(name)
     if kind:
         question = tie_or_prop(model, kind, rest[1:])
@@ -122,6 +123,7 @@ def point(words: list[str], called: str) -> list[int]:
 
 def wide_stages(name: str, words: list[str], progress: Progress) -> int:
     cert, order = counted(words, "stages CERT ORDER", 2)
+    accepted(name)
     stages.staged(name, cert, order, progress)
     return 0
 
@@ -131,6 +133,7 @@ def wide_slides(name: str, words: list[str], progress: Progress) -> int:
     wanted = fraction(words[0], words[1]) if words else None
     if wanted is not None and wanted < 0:
         raise Words("N must be at least 0")
+    accepted(name)
     slides.slides(name, wanted, progress)
     return 0
 
@@ -138,8 +141,8 @@ def wide_slides(name: str, words: list[str], progress: Progress) -> int:
 def live_case(name: str, words: list[str], progress: Progress) -> Case:
     """A model with a live load, and where its certificate goes."""
     micro = whole(words[1], "MICRO", 1, 10**6) if words[1:] else MICRO
+    accepted(name)
     case = Case(name, words[0], progress, part=Fraction(micro, 2 * 10**6))
-    case.structure
     if not case.model.has_live():
         raise Ended(NO_LIVE)
     return case
@@ -152,34 +155,61 @@ def counted(words: list[str], form: str, *counts: int) -> list[str]:
     return words
 
 
-def spared(name: str, question: str, cert: str) -> None:
-    """Refuses a CERT with which a file that is written would take the place of MODEL."""
-    stem = cert.removesuffix(".cert")
-    written = [cert, *(f"{stem}-{word}.toml" for word in ("carried", "beyond", "reversed"))]
-    if question == "between":
-        written.append(stem + ".toml")
+# What follows CERT, without its `.cert`, in the names of the files that are written.
+WRITTEN = r"(-carried|-beyond|-reversed|-\d+)*\.(cert|toml)"
+
+
+def spared(read: Sequence[str], question: str, cert: str) -> None:
+    """Refuses a CERT with which a file that is written could take the place of one that is read, or that is no regular
+    file."""
     try:
-        taken = os.path.realpath(name) in {os.path.realpath(it) for it in written}
+        stem, place, *names = (os.path.realpath(it) for it in (cert.removesuffix(".cert"), cert, *read))
+        taken = [called for called, name in zip(("MODEL", "ORDER"), names)
+                 if name == place or re.fullmatch(re.escape(stem) + WRITTEN, name)
+                 and (question == "between" or name != stem + ".toml")]
     except ValueError:  # no name of a file, as is said when it is opened
         return
     if taken:
-        raise Words("CERT would take the place of MODEL")
+        raise Words(f"CERT would take the place of {taken[0]}")
+    models.writable(cert)
+
+
+@contextmanager
+def telling_of_old(cert: str) -> Iterator[None]:
+    """Says at the end that a file of this name is still the one that was there before, if it is."""
+    def which() -> int | None:
+        return os.stat(cert).st_ino if "\0" not in cert and os.path.isfile(cert) else None
+
+    before = which()
+    try:
+        yield
+    finally:
+        if before is not None and which() == before:
+            console.said(f"solve: {console.plain(cert)} is still what it was before", 0)
+
+
+def accepted(name: str) -> None:
+    """Ends with what the program says of a model that it refuses; and refuses one in which nothing could fall."""
+    program.answer("contacts", name)
+    models.read(name)
 
 
 QUESTIONS: dict[str, Callable[[str, list[str], Progress], int]]
 QUESTIONS = {"stand": stand, "load": load, "range": wide_range, "between": wide_between, "stages": wide_stages,
              "slides": wide_slides}
+OF_CERT = "stand", "load", "range", "between"  # which write the file CERT itself
 
 
 def asked(words: list[str]) -> int:
     if len(words) < 2 or words[1] not in QUESTIONS:
         raise Words(f"after MODEL stands one of {', '.join(QUESTIONS)}")
-    if words[1] != "slides" and words[2:]:
-        spared(words[0], words[1], words[2])
+    name, question, *rest = words
+    if question != "slides" and rest:
+        spared([name, *rest[1:]] if question == "stages" else [name], question, rest[0])
     if shutil.which("esolver") is None:
         raise Refused(MISSING)
-    with Progress("solve") as progress:
-        return QUESTIONS[words[1]](words[0], words[2:], progress)
+    with Progress("solve") as progress, telling_of_old(rest[0]) if rest and question in OF_CERT else nullcontext():
+        return QUESTIONS[question](name, rest, progress)
 
 
 def main(words: list[str]) -> int:

@@ -40,7 +40,7 @@ from fractions import Fraction
 from math import ceil, floor
 from pathlib import Path
 
-from masonry import console, model as models, program
+from masonry import console, model as models, numbers, program
 from masonry.console import Progress, Refused, Words
 from masonry.inset import Inset, inset
 from masonry.lp.short_certificates import Tried
@@ -163,8 +163,7 @@ class Place:
 def number(value: Fraction, rounded: str = "") -> str:
     """A fraction and six digits of it, rounded down or up where that is asked."""
     ways = {"carried": floor, "beyond": ceil}
-    return f"{ratio(value)} = {float(value):.6g}" if not rounded else \
-        f"{ratio(value)} = {nine_digits(value, ways[rounded])}"
+    return f"{ratio(value)} = {nine_digits(value, ways[rounded]) if rounded else numbers.number(value, 0)}"
 
 
 def carries(found: Loaded) -> str:
@@ -247,11 +246,11 @@ def travel(words: list[str]) -> int:
     is_inset = words[2:3] == ["inset"]
     if len(words) < (4 if is_inset else 2):
         raise Words("the form is MODEL N [inset D] [X ..]")
-    numbers = [whole(word, "N") for word in words[1].split(",")]
+    loads = [whole(word, "N") for word in words[1].split(",")]
     shorter = decimal(words[3], "D", Fraction(1, 10**6), models.COORDINATE) if is_inset else None
     given = [whole(word, "X", -models.COORDINATE, models.COORDINATE) for word in words[4 if is_inset else 2:]]
     with Progress("travel") as progress:
-        group, table = group_of(words[0], numbers, shorter)
+        group, table = group_of(words[0], loads, shorter)
         known = Known(table, tried={of: Tried() for of in ("ray", "greatest", "carried")})
         return asked_along(group, given, progress, known)
 

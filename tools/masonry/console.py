@@ -118,6 +118,8 @@ def ran(asked: Callable[[list[str]], int], name: str, page: str | None, words: l
         return said(f"{name}: {fault}", 2)
     except (Refused, ArithmeticError) as fault:
         return said(f"{name}: {fault}", 70)
+    except OSError as fault:  # of the system's own folders and commands; what files are named is told by their names
+        return said(f"{name}: {fault}", 70)
     except Ended as end:
         sys.stdout.write(end.answer.output)
         return said(end.answer.error, end.answer.status)

@@ -11,7 +11,7 @@ from masonry.model import Model, read
 from masonry.numbers import decimal, number
 from masonry.open_faces import Laid, Piece, Side, open_pieces, with_loads
 from masonry.program import answer
-
+from masonry.units import Scale
 
 Surface = Callable[[float], float]
 PARTS = 64  # so many steps of a mean
@@ -135,8 +135,8 @@ def options(words: list[str]) -> tuple[float, list[Spread]]:
     return push, spreads
 
 
-def filled(words: list[str]) -> tuple[Model, list[str]]:
-    """The model with the fill on its arch, and what to say."""
+def filled(words: list[str]) -> tuple[Model, Scale, list[str]]:
+    """The model with the fill on its arch, by what its forces are multiplied, and what to say."""
     if len(words) < 3:
         raise Words("fill takes MODEL WEIGHT Y, and then what else you want")
     weight, top = float(decimal(words[1], "WEIGHT", 0, 10**6)), float(decimal(words[2], "Y", -10**6, 10**6))
@@ -157,4 +157,5 @@ def filled(words: list[str]) -> tuple[Model, list[str]]:
     for load in spreads:
         lay_spread(laid, pieces, top, load)
     right, left = (sum(max(way * one, 0.0) for one in pushes) for way in (1, -1))
-    return model, [f"push right {number(right, 1e-6)} left {number(left, 1e-6)}", *with_loads(model, laid)]
+    made, scale, lines = with_loads(model, laid)
+    return made, scale, [f"push right {number(right, 1e-6)} left {number(left, 1e-6)}", *lines]

@@ -5,8 +5,11 @@ whole numbers alone. Most of its faults are left to the program, which names the
 moment), in sixths of a unit of force, the moment counter-clockwise about the block's first corner.
 """
 import json
+import os
+import shutil
 import tomllib
-from collections.abc import Callable, Iterable, Sequence
+from collections.abc import Callable, Iterable, Iterator, Sequence
+from contextlib import contextmanager
 from dataclasses import dataclass, field, replace
 from fractions import Fraction
 from math import gcd, hypot
@@ -197,8 +200,11 @@ def model_of_document(document: object) -> Model:
 
 
 def faults_of(model: Model) -> Iterable[str]:
-    """What keeps a model from having loads, in words."""
+    """What keeps a model from having loads, in words. The program takes a model without a free block, and says that it
+    stands: so an empty file, left by a script that refused, must not go on from script to script."""
     materials, free = {one.name for one in model.materials}, {one.name for one in model.free_blocks()}
+    if not free:
+        yield "it has no free block, so there is nothing that could fall"
     if len(materials) < len(model.materials) or len({one.name for one in model.blocks}) < len(model.blocks):
         yield "two materials or two blocks have one name"
     for block in model.blocks:
@@ -253,10 +259,41 @@ def write(name: str | Path, model: Model) -> None:
 
 def put(name: str | Path, text: str) -> None:
     """Writes a file."""
+    with beside(name) as new:
+        new.write_text(text, newline="\n")
+
+
+@contextmanager
+def beside(name: str | Path) -> Iterator[Path]:
+    """A new file beside a regular one, or where there is none yet. It takes its place once it is written; if an
+    exception ends that, what was there before stays as it was."""
+    new = None
     try:
-        Path(name).write_text(text, newline="\n")
+        place = writable(name)
+        new = place.with_name(f".{place.name}.{os.getpid()}")
+        yield new
+        if place.exists():
+            shutil.copymode(place, new)
+        new.replace(place)
     except (OSError, ValueError) as fault:
         raise Refused(f"{console.plain(name)}: {getattr(fault, 'strerror', None) or fault}") from None
+    finally:
+        if new is not None:
+            new.unlink(missing_ok=True)
+
+
+def writable(name: str | Path) -> Path:
+    """Where a file of this name is written. A device, a folder or a pipe is refused."""
+    place = Path(os.path.realpath(name))
+    if place.exists() and not place.is_file():
+        raise Refused(f"{console.plain(name)}: it is no regular file, so nothing is written there")
+    return place
+
+
+def discard(name: str | Path) -> None:
+    """Takes away a file that scripts have named, if it is a regular one."""
+    if Path(name).is_file():
+        Path(name).unlink()
 
 
 # The table of contacts

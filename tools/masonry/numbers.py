@@ -4,6 +4,7 @@ Nothing here is proved.
 """
 import re
 from collections.abc import Callable, Sequence
+from decimal import Decimal
 from fractions import Fraction
 from math import ceil, floor, gcd, lcm
 
@@ -57,8 +58,12 @@ def decimal(word: str, called: str, least: Limit = None, most: Limit = None) -> 
 
 
 def number(value: Fraction | float, least: float = 1e-9) -> str:
-    """Six digits of a number; 0 where it is below the least."""
-    return f"{float(value):.6g}" if abs(float(value)) > least else "0"
+    """Six digits of a number, however great it is; 0 where it isn't above the least."""
+    try:
+        return f"{float(value):.6g}" if abs(float(value)) > least else "0"
+    except OverflowError:
+        exact = Fraction(value)
+        return f"{Decimal(exact.numerator) / Decimal(exact.denominator):.6g}"
 
 
 def ratio(x: Fraction) -> str:

@@ -4,20 +4,21 @@ Nothing here is proved. Places are exact fractions. A force is given in decimals
 whole points.
 """
 from collections.abc import Sequence
-from dataclasses import dataclass, field
+from dataclasses import dataclass, field, replace
 from enum import Enum
 from fractions import Fraction
 from math import floor
 
 from masonry.console import Refused
-from masonry.model import Block, FORCE, LOADS, Load, Model, Point, twice_area
+from masonry.model import Block, FORCE, LOADS, Load, Model, Point, WEIGHT, heavier, twice_area
 from masonry.numbers import number
-
+from masonry.units import Scale
 
 Place = tuple[Fraction, Fraction]
 Force = tuple[float, float]
-# How much of all forces may be lost or won by rounding before that is told.
-ROUNDED = 0.002
+ROUNDED = 0.002  # how much rounding may change the forces of a kind, as a part of their sum
+TIMES = [int(step + "0" * power) for power in range(7) for step in "125"]  # by what forces may be multiplied
+KINDS = "dead", "live"
 
 
 class Side(Enum):
@@ -167,9 +168,9 @@ class Laid:
         for at, part in (piece.start, (2 * first + last) / 6), (piece.end, (first + 2 * last) / 6):
             self.add(piece.block, kind, at, (part * along[0], part * along[1]))
 
-    def loads(self) -> list[Load]:
-        """The loads, in whole numbers."""
-        found = [Load(block, kind, list(at), [round(part) for part in force])
+    def loads(self, times: int = 1) -> list[Load]:
+        """The loads, so many times as great, in whole numbers."""
+        found = [Load(block, kind, list(at), [round(times * part) for part in force])
                  for (block, kind, at), force in self.sums.items()]
         found = [load for load in found if any(load.force)]
         if len(found) > LOADS:
@@ -179,27 +180,40 @@ class Laid:
                 raise Refused(f"a load of {load.block} becomes greater than {FORCE}")
         return found
 
-    def rounded(self) -> float:
-        """The sum of what rounding changes, as a part of the sum of all forces."""
-        parts = [part for force in self.sums.values() for part in force]
+    def rounded(self, kind: str, times: int = 1) -> float:
+        """The sum of what rounding changes in the forces of a kind, so many times as great, as a part of their sum."""
+        parts = [times * part for (_, of, _), force in self.sums.items() if of == kind for part in force]
         return sum(abs(part - round(part)) for part in parts) / (sum(abs(part) for part in parts) or 1.0)
 
-    def total(self, kind: str) -> Force:
-        """The sum of the forces of a kind, as they were before they were rounded."""
-        forces = [force for (_, of, _), force in self.sums.items() if of == kind]
-        return sum(u for u, _ in forces), sum(v for _, v in forces)
+    def times(self) -> int:
+        """By what all forces must be multiplied so that rounding changes little in either kind."""
+        for times in TIMES:
+            if all(self.rounded(kind, times) <= ROUNDED for kind in KINDS):
+                return times
+        raise Refused("the forces of the earth are too small for this unit of force: take a smaller one")
 
 
-def with_loads(model: Model, laid: Laid) -> list[str]:
-    """Adds these loads to a model, and gives the lines to say of them."""
-    model.loads += laid.loads()
-    if len(model.loads) > LOADS:
-        raise Refused(f"{len(model.loads)} loads, more than {LOADS}")
-    lines = []
-    for kind in ("dead", "live"):
-        across_, up = laid.total(kind)
-        if across_ or up:
-            lines.append(f"sum {kind} {number(across_, 1e-6)} {number(up, 1e-6)}")
-    if (part := laid.rounded()) > ROUNDED:
-        lines.append(f"rounding changes the forces by {100 * part:.2g} % in all: take a smaller unit of force")
-    return lines
+def with_loads(model: Model, laid: Laid) -> tuple[Model, Scale, list[str]]:
+    """The model with these loads, by what all its forces are multiplied then, and the lines to say of them."""
+    times = laid.times()
+    listed = laid.loads(times)
+    own = [load.times(times) for load in model.loads]
+    if len(own) + len(listed) > LOADS:
+        raise Refused(f"{len(own) + len(listed)} loads, more than {LOADS}")
+    if times > 1 and (max([abs(part) for load in own for part in load.force], default=0) > FORCE
+                      or max(times * one.weight for one in model.materials) > WEIGHT):
+        part = max(laid.rounded(kind) for kind in KINDS)
+        raise Refused(f"rounding changes the forces of a kind by {100 * part:.2g} %, and multiplied by {times} a weight "
+                      "or a force of the model passes its limit: take another unit of force")
+    lines = [f"sum {kind} {number(across_, 0)} {number(up, 0)}" for kind in KINDS
+             for across_, up in [total(listed, kind, times)] if any(load.kind == kind for load in listed)]
+    if times > 1:
+        lines.append(f"all forces are multiplied by {times}, so that rounding changes those of no kind by more than "
+                     f"{100 * ROUNDED:g} %")
+    return replace(model, materials=heavier(model, times), loads=[*own, *listed]), Scale(Fraction(times)), lines
+
+
+def total(loads: Sequence[Load], kind: str, times: int) -> tuple[Fraction, Fraction]:
+    """The sum of the loads of a kind as they are written, in the unit of force of the structure."""
+    forces = [load.force for load in loads if load.kind == kind]
+    return Fraction(sum(force[0] for force in forces), times), Fraction(sum(force[1] for force in forces), times)

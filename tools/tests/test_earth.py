@@ -6,9 +6,12 @@ docs/.
 
 The program is called where it is built, or PUNGIROE names one.
 """
+import contextlib
+import io
 import random
 import unittest
 from collections.abc import Callable
+from dataclasses import replace
 from fractions import Fraction
 from math import atan2, cos, hypot, pi, radians, sin, tan
 from tempfile import TemporaryDirectory
@@ -20,9 +23,10 @@ import earth
 from earth import Behind, Soil
 from masonry import fill, program
 from masonry.console import Refused, Words
-from masonry.model import Block, Load, Material, Model, printed, share
+from masonry.model import Block, Load, Material, Model, printed, put, share, write
 from masonry.open_faces import Laid, Side, open_pieces, split, with_loads
 from masonry.program import NOT_BUILT, built
+from masonry.units import Scale
 
 GROUND = Block(name="ground", material="stone", fixed=True, corners=[[-900, -10], [900, -10], [900, 0], [-900, 0]])
 
@@ -248,7 +252,7 @@ class Fills(unittest.TestCase):
         """Two blocks, whose backs fall from (0, 20) to either side, to (-30, 0) and (30, 0); the fill is 30 high."""
         model = wall([[0, 0], [30, 0], [0, 20]], [[0, 0], [0, 20], [-30, 0]], sway=sway)
         with mock.patch.object(fill, "answer"), mock.patch.object(fill, "read", lambda _: model):
-            found, _ = fill.filled(["model", "2", "30", *words])
+            found, _, _ = fill.filled(["model", "2", "30", *words])
         result = Laid()
         for load in found.loads:
             (x, y), (u, v) = load.at, load.force
@@ -288,7 +292,7 @@ class Fills(unittest.TestCase):
         for blocks, words, wanted in tried:
             model = wall(*blocks)
             with mock.patch.object(fill, "answer"), mock.patch.object(fill, "read", lambda _: model):
-                _, lines = fill.filled(["model", "2", "30", *words])
+                _, _, lines = fill.filled(["model", "2", "30", *words])
             self.assertEqual(lines[0], wanted)
         self.assertEqual(lines[1], "sum dead 400 -1200")
 
@@ -297,8 +301,32 @@ class Fills(unittest.TestCase):
         model.loads = [own]
         laid_ = Laid()
         laid_.add("c1", "live", (Fraction(1), Fraction(2)), (0.0, -5.0))
-        with_loads(model, laid_)
-        self.assertEqual(model.loads, [own, Load("c1", "live", [1, 2], [0, -5])])
+        made, scale, lines = with_loads(model, laid_)
+        self.assertEqual(made.loads, [own, Load("c1", "live", [1, 2], [0, -5])])
+        self.assertEqual((scale, lines), (Scale(), ["sum live 0 -5"]))
+
+    def test_forces_are_multiplied_until_rounding_changes_little(self) -> None:
+        """Of a push of 3000.3 and a surcharge of 7.75 the first is rounded by 0.01 %, the second by 3 %. Twice that is
+        15.5, five times 38.75, which is rounded by 0.65 %, and ten times 77.5; 20 times is whole."""
+        model = replace(wall([[0, 0], [30, 0], [0, 20]]), loads=[Load("c1", "dead", [1, 1], [2, -3])])
+        laid_ = Laid()
+        laid_.add("c1", "dead", (Fraction(0), Fraction(5)), (3000.3, 0.0))
+        self.assertEqual(with_loads(model, laid_)[1], Scale())
+        laid_.add("c1", "live", (Fraction(0), Fraction(7)), (7.75, 0.0))
+        made, scale, lines = with_loads(model, laid_)
+        self.assertEqual((scale.line(), made.materials[0].weight, made.loads[0].force, [one.force for one in made.loads[1:]]),
+                         ("# All forces are multiplied by 20, all lengths by 1.\n", 440, [40, -60], [[60006, 0], [155, 0]]))
+        self.assertEqual(lines[:2], ["sum dead 3000.3 0", "sum live 7.75 0"])
+        self.assertIn("multiplied by 20,", lines[2])
+        heavy = replace(model, materials=[replace(model.materials[0], weight=10**5)])
+        with self.assertRaisesRegex(Refused, "changes the forces of a kind by 3.2 %"):
+            with_loads(heavy, laid_)
+
+    def test_sums_are_those_of_the_loads_as_they_are_written(self) -> None:
+        laid_ = Laid()
+        for x in range(9):
+            laid_.add("c1", "dead", (Fraction(x), Fraction(0)), (0.0, -1000.4))
+        self.assertEqual(with_loads(wall([[0, 0], [30, 0], [0, 20]]), laid_)[2], ["sum dead 0 -9000"])
 
     def test_a_load_spreads_evenly(self) -> None:
         """Over the crown, 4 wide, by a half to each side: half on either block. 15 to the right, all on one."""
@@ -369,11 +397,46 @@ class Worked(unittest.TestCase):
         self.assertEqual(Soil(18, 1, 0, 0).height, 2 / 3)
         for words, height in wanted.items():
             with mock.patch.object(earth, "answer"), mock.patch.object(earth, "read", lambda _: courses([1, 0])):
-                made, lines = earth.behind(["m", "18", "30", "0", "0", "0", "300", "quake", "10", "100", *words])
+                made, _, lines = earth.behind(["m", "18", "30", "0", "0", "0", "300", "quake", "10", "100", *words])
             self.assertTrue(lines[0].endswith(f"in the earthquake 0.3966, increment at {height}"), lines[0])
             moment = sum(load.force[0] * load.at[1] - load.force[1] * load.at[0] for load in made.loads)
             # The static 270000 acts at 100, and 810000*KAE - 270000 = 51209 more at this part of 300.
             self.assertAlmostEqual(moment / (27e6 + 51209 * float(Fraction(words[0] if words else "2/3")) * 300), 1, 4)
+
+    def test_a_surface_that_does_not_begin_at_the_back_of_the_top_course(self) -> None:
+        """The wall's back is at 0, or leans from -60 at the foot to 0 at the head, or has a step of 20 at 150: a place
+        in front of it, behind it or at the heel is another wall."""
+        leaning = wall([[-60, 0], [90, 0], [90, 300], [0, 300]])
+        stepped = wall([[-20, 0], [90, 0], [90, 150], [-20, 150]], [[0, 150], [90, 150], [90, 300], [0, 300]])
+        tried = [(courses(), "0", "300", True), (courses(), "1", "250", True), (courses(), "60", "300", False),
+                 (courses(), "-3", "300", False), (courses(), "0", "320", True), (leaning, "0", "300", True),
+                 (leaning, "-10", "250", True), (leaning, "0", "250", False), (leaning, "3", "315", True),
+                 (leaning, "6", "315", False), (stepped, "0", "300", True), (stepped, "-20", "300", False),
+                 (stepped, "-20", "140", True)]
+        for model, x, y, well in tried:
+            with self.subTest((x, y)), mock.patch.object(earth, "answer"), \
+                    mock.patch.object(earth, "read", lambda _: model):
+                if well:
+                    earth.behind(["m", "18", "35", "0", "0", x, y])
+                else:
+                    with self.assertRaisesRegex(Refused, "the top course there, is at"):
+                        earth.behind(["m", "18", "35", "0", "0", x, y])
+
+    @unittest.skipUnless(built(), NOT_BUILT)
+    def test_a_surcharge_of_a_unit_counts_whole(self) -> None:
+        """By hand, about the toe: (43.56e6 - 27e6)/(s/3 * 300 * 150) for a surcharge of s, with any s."""
+        factors = set()
+        for surcharge in "0.1", "1", "3", "30":
+            with TemporaryDirectory() as folder:
+                name, made = f"{folder}/wall.toml", f"{folder}/loaded.toml"
+                write(name, courses())
+                with contextlib.redirect_stdout(io.StringIO()) as out, contextlib.redirect_stderr(io.StringIO()):
+                    self.assertEqual(earth.main([name, "18", "30", "0", "0", "0", "300", "dead", surcharge, "live"]), 0)
+                put(made, out.getvalue())
+                _, scale, factor = program.answer("load", made).split("\n")[1].split()
+                factors.add(Fraction(int(factor), int(scale)) * Fraction(surcharge))
+        for found in factors:
+            self.assertAlmostEqual(float(found) / (16.56e6 / 15000), 1, 2)
 
     @unittest.skipUnless(built(), NOT_BUILT)
     def test_the_program(self) -> None:

@@ -5,10 +5,14 @@
 
 The program is called where it is built, or PUNGIROE names one.
 """
+import contextlib
+import io
 import random
 import time
 import unittest
+from dataclasses import replace
 from fractions import Fraction
+from tempfile import TemporaryDirectory
 
 from helpers import TOP
 
@@ -16,8 +20,9 @@ import look
 import survey
 from masonry import program
 from masonry.console import Refused, Words
-from masonry.model import Block, Load, Material, Model, bearings_of, read
+from masonry.model import Block, Load, Material, Model, bearings_of, printed, put, read, share
 from masonry.program import NOT_BUILT, built
+from masonry.units import Scale
 from survey import Corner, Stone
 
 
@@ -87,6 +92,35 @@ touch 1 post pier 4 4
         start = time.process_time()
         looked(Model(None, None, [Material("stone", 1, [1, 2])], [], blocks, []), "bearings 0\ntouches 0\n")
         self.assertLess(time.process_time() - start, 1)
+
+    def test_a_load_beside_its_block(self) -> None:
+        """At (4, 400) for (4, 40), on a stone 0..320 by 0..80: 320 above it. Its corners, its edges and what is within
+        the rounding of a place aren't told, nor is a load twice."""
+        stone = box("c5", 0, 0, 320, 80)
+        loads = [Load("c5", "live", at, [1, 0]) for at in ([4, 400], [4, 40], [320, 80], [0, 7], [321, 80], [4, 400])]
+        loads += [Load("c5", "dead", [323, 84], [0, -1])]  # 3 and 4 off the corner
+        model = Model(None, None, [Material("stone", 1, [1, 2])], [], [stone, box("ground", -9, -9, 400, 0, True)], loads)
+        self.assertEqual(list(look.off_blocks(model, 2)), ["off c5 4 400 320", "off c5 323 84 5"])
+        self.assertEqual(list(look.off_blocks(model, 6)), ["off c5 4 400 320"])
+        clockwise = replace(model, blocks=[replace(stone, corners=[*stone.corners][::-1])])
+        self.assertEqual(list(look.off_blocks(clockwise, 2)), ["off c5 4 400 320", "off c5 323 84 5"])
+
+    @unittest.skipUnless(built(), NOT_BUILT)
+    def test_a_share_is_told_in_the_units_of_the_structure(self) -> None:
+        """The wall of docs/worked_wall.md weighs 59.4 kN and takes 27 kN of earth. At the share 1/2 all forces are
+        doubled, and half of the surcharge's 3 kN is dead as well."""
+        wall = read(TOP / "examples/walls/dry-stone-retaining-wall.toml")
+        with TemporaryDirectory() as folder:
+            name = f"{folder}/half.toml"
+            put(name, Scale(Fraction(2)).line() + printed(share(wall, 1, 2)))
+            said = []
+            for words in [name, "1", "0.0001"], [name]:
+                with contextlib.redirect_stdout(io.StringIO()) as out:
+                    self.assertEqual(look.main(words), 0)
+                said.append(out.getvalue().splitlines())
+        self.assertEqual(said[0][:2], ["material stone 6 27000 59.4", "load dead 12 28.5 0"])
+        self.assertEqual(said[1][:3], ["multiplied forces 2", "material stone 6 27000 1.188e+06",
+                                       "load dead 12 570000 0"])
 
     def test_wrong_words_are_told(self) -> None:
         for words in (["m", "x"], ["m", "-1"], ["m", "1", "0"], ["m", "1", "nan"], ["m", "1", "1", "1"]):

@@ -3,16 +3,20 @@
 
     python3 tools/tests/test_model.py
 """
+import os
 import random
 import unittest
 from collections.abc import Sequence
+from dataclasses import replace
 from fractions import Fraction
-from tempfile import NamedTemporaryFile
+from pathlib import Path
+from tempfile import NamedTemporaryFile, TemporaryDirectory
 
 import helpers  # puts tools/ where modules are found
 
 from masonry.console import Refused
-from masonry.model import Block, Load, Material, Model, Point, model_of, printed, read as read_model, share, wrenches
+from masonry.model import (Block, Load, Material, Model, Point, beside, discard, model_of, printed, put,
+                           read as read_model, share, wrenches)
 
 SQUARE = [[0, 0], [2, 0], [2, 4], [0, 4]]
 
@@ -90,6 +94,33 @@ class Models(unittest.TestCase):
                      printed(post(loads=[Load("ground", "dead", [0, 0], [1, 0])]))):
             with self.assertRaises(Refused):
                 model_of(text)
+
+    def test_a_model_in_which_nothing_could_fall_is_refused(self) -> None:
+        """The empty file that is left where a script refuses, and one whose blocks are all fixed."""
+        for text in "", printed(replace(post(), blocks=post().blocks[:1])):
+            with self.assertRaisesRegex(Refused, "no free block"):
+                model_of(text)
+
+    def test_a_file_is_written_whole_or_not_at_all(self) -> None:
+        with TemporaryDirectory() as folder:
+            name, link, pipe = (Path(folder, called) for called in ("file", "link", "pipe"))
+            put(name, "old\n")
+            name.chmod(0o640)
+            link.symlink_to("file")
+            put(link, "new\n")
+            self.assertEqual((name.read_text(), name.stat().st_mode & 0o777, link.is_symlink()), ("new\n", 0o640, True))
+            with self.assertRaises(ZeroDivisionError), beside(name) as new:
+                new.write_text("half")
+                raise ZeroDivisionError
+            os.mkfifo(pipe)
+            for wrong in str(pipe), folder, f"{folder}/none/file", "a\0b":
+                with self.assertRaises(Refused):
+                    put(wrong, "text")
+            discard(pipe)
+            self.assertEqual(sorted(it.name for it in Path(folder).iterdir()), ["file", "link", "pipe"])
+            self.assertEqual(name.read_text(), "new\n")
+            discard(name)
+            self.assertFalse(name.exists())
 
     def test_loads_are_counted_in_sixths_about_the_first_corner(self) -> None:
         # The weight is 8 at (1, 2); the push is 1 to the right at (0, 4).

@@ -3,6 +3,10 @@
 
     python3 tools/tests/test_stages.py
 """
+import contextlib
+import io
+import os
+import tempfile
 import unittest
 from pathlib import Path
 from unittest import mock
@@ -12,6 +16,7 @@ from helpers import Asked, EXAMPLES, example, needs_esolver as setUpModule, refu
 import solve
 from masonry import model as models, program
 from masonry.console import Answer
+from masonry.lp import programs
 
 
 class Stages(Asked):
@@ -40,10 +45,55 @@ class Stages(Asked):
 class Places(Asked):
     """Where certificates go."""
 
-    def test_no_file_takes_the_place_of_the_model(self) -> None:
-        self.solved(example("walls/corbel"), "between", f"{self.folder}/model.cert", status=2)
-        self.solved(example("walls/corbel"), "load", self.name, status=2)
-        self.assertEqual(models.read(self.name), example("walls/corbel"))
+    def test_no_file_takes_the_place_of_one_that_is_read(self) -> None:
+        """Nor of a stage, of a share or of the reversed model, whose names are made of CERT."""
+        corbel, order = example("walls/corbel"), f"{self.folder}/model-1.toml"
+        Path(order).write_text("corbel\n")
+        self.solved(corbel, "between", f"{self.folder}/model.cert", status=2)
+        self.solved(corbel, "load", self.name, status=2)
+        self.solved(corbel, "stages", f"{self.folder}/model.cert", order, status=2)
+        for stem in "model-2", "model-carried", "model-reversed-beyond", "model-reversed":
+            self.name = f"{self.folder}/{stem}.toml"
+            self.solved(corbel, "range", f"{self.folder}/model.cert", status=2)
+            self.assertEqual(models.read(self.name), corbel)
+
+    def test_what_is_no_regular_file_stays(self) -> None:
+        pipe = Path(self.folder, "pipe")
+        os.mkfifo(pipe)
+        for question in "stand", "load", "range", "between":
+            self.solved(example("walls/corbel"), question, str(pipe), status=70)
+            self.solved(example("walls/corbel"), question, self.folder, status=70)
+        self.assertTrue(pipe.is_fifo())
+
+    def test_a_file_that_is_not_written_anew_stays_and_that_is_said(self) -> None:
+        """Its factor needs two shares, and no certificate of the dead loads is accepted."""
+        real = program.run
+
+        def rejecting(*words: object) -> Answer:
+            return real(*words) if words[0] != "check" else Answer(1, "rejected\n", "")
+
+        for question in "stand", "load", "range":
+            Path(self.cert).write_text("of another day\n")
+            models.write(self.name, example("walls/corbel"))
+            err = io.StringIO()
+            with mock.patch.object(program, "run", rejecting), contextlib.redirect_stderr(err):
+                self.assertEqual(solve.main([self.name, question, self.cert]), 70)
+            self.assertEqual(Path(self.cert).read_text(), "of another day\n")
+            self.assertIn(f"solve: {self.cert} is still what it was before", err.getvalue())
+            self.assertEqual(sorted(it.name for it in Path(self.folder).glob(".*")), [])
+
+    def test_a_folder_that_is_missing_is_not_told_as_a_missing_esolver(self) -> None:
+        models.write(self.name, example("walls/corbel"))
+        for folder, wanted in (f"{self.folder}/nowhere", "nowhere"), ("/proc", "Permission denied|No such file|Read-only"):
+            err = io.StringIO()
+            with mock.patch.object(tempfile, "tempdir", folder), contextlib.redirect_stderr(err):
+                self.assertEqual(solve.main([self.name, "stand", self.cert]), 70)
+            self.assertRegex(err.getvalue(), wanted)
+            self.assertNotIn("installed", err.getvalue())
+        for there, said in ("/usr/bin/esolver", "^esolver: No such file"), (None, "isn't installed"):
+            with mock.patch("subprocess.run", side_effect=FileNotFoundError(2, "No such file")), \
+                    mock.patch("shutil.which", return_value=there), self.assertRaisesRegex(programs.NoAnswer, said):
+                programs.asked("", [])
 
 
 if __name__ == "__main__":

@@ -50,9 +50,10 @@ class Forms(unittest.TestCase):
         with self.assertRaises(Refused):
             variant.without(post(), ["roof"])
 
-    def with_load(self, model: Model, words: list[str]) -> Model:
-        with mock.patch.object(variant, "read", lambda _: model):
-            return variant.with_load("model", words)
+    def with_load(self, model: Model, words: list[str], first: str = "") -> Model:
+        with TemporaryDirectory() as folder:
+            Path(folder, "model.toml").write_text(first + printed(model))
+            return variant.with_load(f"{folder}/model.toml", words)
 
     def test_with_adds_a_load(self) -> None:
         made = self.with_load(post(PUSH), ["dead", "stone", "5", "1", "0", "-7"])
@@ -66,6 +67,22 @@ class Forms(unittest.TestCase):
                 self.with_load(post(), ["dead", name, "0", "0", "0", "1"])
         with self.assertRaises(Refused):
             self.with_load(post(*[PUSH] * 256), ["dead", "post", "0", "0", "0", "1"])
+
+    def test_with_adds_nothing_where_all_forces_are_multiplied(self) -> None:
+        """A force of 7 beside weights that are ten times those of the structure would be a tenth of what was meant."""
+        words = ["live", "stone", "5", "1", "0", "-7"]
+        for scale in Scale(Fraction(10)), Scale(lengths=30):
+            with self.assertRaisesRegex(Refused, "add the load before"):
+                self.with_load(post(PUSH), words, scale.line())
+
+    def test_no_model_without_a_free_block_is_printed(self) -> None:
+        with TemporaryDirectory() as folder:
+            name, order = f"{folder}/model.toml", Path(folder, "order")
+            write(name, post(PUSH))
+            order.write_text("post\n")
+            for form, words in ("without", ["post", "stone"]), ("stage", [str(order), "0"]):
+                with self.assertRaisesRegex(Refused, "no free block is left"):
+                    variant.in_form(form, [name, *words])
 
     def test_the_first_line_of_a_share_says_by_what_forces_are_multiplied(self) -> None:
         triangle = [[0, 0], [1, 0], [0, 1]]

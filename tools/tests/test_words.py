@@ -248,6 +248,19 @@ class Mistakes(unittest.TestCase):
             self.fresh()
             self.assertIn(self.tried(self.words(form), "as it should be"), (0, 1), form)
 
+    def test_an_empty_file_is_refused(self) -> None:
+        """What a script leaves that refuses, in `tools/survey.py .. >m.toml`, is judged by no other."""
+        for form in FORMS:
+            words = self.words(form)
+            if {self.files[letter] for letter in "MNA"}.isdisjoint(words):
+                continue
+            self.fresh()
+            for letter in "MNA":
+                Path(self.files[letter]).write_text("")
+            # No load has a number, and a certificate isn't one of this model: these the program refuses, in its words.
+            refused = {"region": 15, "read": 1}.get(words[0], 70)
+            self.assertEqual(self.tried(words, "an empty file"), refused, form)
+
     def test_command_lines(self) -> None:
         draws, statuses = random.Random(61), set()
         for number in range(LINES):

@@ -3,6 +3,7 @@
 Nothing here is proved, and nothing is about masonry. esolver calls some programs UNDEFINED; then it is asked again in
 other ways.
 """
+import shutil
 import subprocess
 import tempfile
 from collections.abc import Iterable, Mapping
@@ -176,7 +177,7 @@ def asked(text: str, way: list[str]) -> list[str]:
         try:
             subprocess.run(["esolver", *way, "-L", "-O", "answer", "problem.lp"], cwd=folder, stdout=DEVNULL,
                            stderr=DEVNULL)
-        except OSError:
-            raise NoAnswer(MISSING) from None
+        except OSError as fault:
+            raise NoAnswer(f"esolver: {fault.strerror or fault}" if shutil.which("esolver") else MISSING) from None
         answer = Path(folder, "answer")
         return answer.read_text().splitlines() if answer.exists() else ["status nothing"]

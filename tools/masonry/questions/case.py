@@ -1,14 +1,13 @@
 """What is certified and announced: questions about a model, settled by the program or by linear programs.
 
 Nothing here is proved: only the `accepted` of `check` counts. Nothing is announced, and no answer is given, that
-`check` didn't accept; a certificate that it rejects is taken away again. docs/other_solvers.md explains the method.
+`check` didn't accept; a certificate that it rejects never takes its place. docs/other_solvers.md explains the method.
 """
 from collections.abc import Callable, Sequence
 from dataclasses import dataclass, field
 from fractions import Fraction
 from functools import cached_property
 from math import ceil, floor
-from pathlib import Path
 
 from masonry import console, model as models, program
 from masonry.console import Refused, quiet
@@ -82,17 +81,17 @@ class Case:
         return linear.opening(self.structure)
 
     def accepted(self, model: str, name: str, lines: list[str]) -> None:
-        """Writes a certificate, which must be accepted: else it is taken away, and nothing is announced."""
+        """Writes a certificate, which must be accepted: else nothing takes its place, and nothing is announced."""
         lines = [*lines, "end"]
         if bits(lines) > GREATEST.bit_length():
             raise NotFound(f"a certificate of {bits(lines)} bits")
-        models.put(name, "\n".join([*lines, ""]))
-        self.progress("the check")
-        done = program.run("check", model, name)
-        if (done.status, done.output) != (0, "accepted\n"):
-            Path(name).unlink()
-            said = (done.output or done.error).strip()
-            raise NotFound(f"the check of a certificate of {bits(lines)} bits says {said}")
+        with models.beside(name) as new:
+            new.write_text("\n".join([*lines, ""]))
+            self.progress("the check")
+            done = program.run("check", model, new)
+            if (done.status, done.output) != (0, "accepted\n"):
+                said = (done.output or done.error).strip()
+                raise NotFound(f"the check of a certificate of {bits(lines)} bits says {said}")
         self.voice.note(f"{name}: {bits(lines)} bits")
 
     # By the program
@@ -220,7 +219,6 @@ class Case:
 
     def shares(self, top: Raised, dead: Inner) -> Shares:
         """That the dead loads stand, and a share on each side of the factor."""
-        Path(self.cert).unlink(missing_ok=True)
         try:
             if not self.known.stands:
                 self.stands(dead)
@@ -253,7 +251,7 @@ class Case:
                 if part >= 1:
                     self.lacks(f"a share {word}", fault)
                     for end in "toml", "cert":
-                        Path(f"{self.stem}-{word}.{end}").unlink(missing_ok=True)
+                        models.discard(f"{self.stem}-{word}.{end}")
                     return None
 
     def shared(self, word: str, share: Fraction, lines: Callable[[Model], list[str]]) -> Fraction:

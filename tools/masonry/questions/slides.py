@@ -14,6 +14,7 @@ from fractions import Fraction
 from math import hypot
 from pathlib import Path
 
+from masonry import numbers
 from masonry.console import Telling
 from masonry.lp.programs import Exact, Found, Lacking, Program, Row, Sign
 from masonry.numbers import ratio
@@ -56,7 +57,7 @@ class Slide:
 
 
 def number(factor: Fraction) -> str:
-    return f"{ratio(factor)} = {float(factor):.6g}"
+    return f"{ratio(factor)} = {numbers.number(factor, 0)}"
 
 
 class Pressing:

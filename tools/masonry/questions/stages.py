@@ -2,8 +2,6 @@
 
 Nothing here is proved, but each stage has a certificate that `check` accepts.
 """
-from pathlib import Path
-
 from masonry import model as models, program
 from masonry.console import Ended, Telling
 from masonry.model import Model
@@ -36,5 +34,5 @@ def stage(model: Model, stem: str, progress: Telling) -> Standing:
     found = case.settled_stand()
     if not case.wide and not isinstance(found, Collapses):
         for end in ".toml", ".cert":
-            Path(stem + end).unlink(missing_ok=True)
+            models.discard(stem + end)
     return found
