@@ -258,7 +258,7 @@ class Mistakes(unittest.TestCase):
             for letter in "MNA":
                 Path(self.files[letter]).write_text("")
             # No load has a number, and a certificate isn't one of this model: these the program refuses, in its words.
-            refused = {"region": 15, "read": 1}.get(words[0], 70)
+            refused = {"region M 1 2 D": 15}.get(form, 1 if words[0] == "read" else 70)
             self.assertEqual(self.tried(words, "an empty file"), refused, form)
 
     def test_command_lines(self) -> None:
