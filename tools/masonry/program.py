@@ -8,6 +8,7 @@ import os
 import subprocess
 from pathlib import Path
 
+from masonry import time_limit
 from masonry.console import Answer, Ended, Refused, said
 
 SCRIPT = Path(__file__).resolve().parents[2] / "pungiroe"
@@ -19,7 +20,7 @@ NOT_BUILT = "nothing is built: run ./pungiroe, which takes many minutes, or name
 def run(*words: object) -> Answer:
     tell_of_build()
     try:
-        done = subprocess.run([PROGRAM, *map(str, words)], capture_output=True, encoding="utf-8", errors="replace")
+        done = time_limit.run([PROGRAM, *map(str, words)])
     except (OSError, ValueError) as fault:
         raise Refused(f"{PROGRAM}: {getattr(fault, 'strerror', None) or fault}") from None
     if done.returncode < 0:

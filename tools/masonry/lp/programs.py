@@ -4,15 +4,14 @@ Nothing here is proved, and nothing is about masonry. esolver calls some program
 other ways.
 """
 import shutil
-import subprocess
 import tempfile
 from collections.abc import Iterable, Mapping
 from dataclasses import dataclass, field
 from enum import Enum
 from fractions import Fraction
 from pathlib import Path
-from subprocess import DEVNULL
 
+from masonry import time_limit
 from masonry.console import Refused
 
 
@@ -175,8 +174,7 @@ def asked(text: str, way: list[str]) -> list[str]:
     with tempfile.TemporaryDirectory() as folder:
         Path(folder, "problem.lp").write_text(text)
         try:
-            subprocess.run(["esolver", *way, "-L", "-O", "answer", "problem.lp"], cwd=folder, stdout=DEVNULL,
-                           stderr=DEVNULL)
+            time_limit.run(["esolver", *way, "-L", "-O", "answer", "problem.lp"], folder)
         except OSError as fault:
             raise NoAnswer(f"esolver: {fault.strerror or fault}" if shutil.which("esolver") else MISSING) from None
         answer = Path(folder, "answer")
