@@ -90,6 +90,13 @@ def seat(model: Model, x: int, side: Fraction) -> Seat:
 # Places
 
 
+def bends(model: Model, x: int) -> bool:
+    """Whether a corner of a top that is uppermost lies there."""
+    return any(at == x and height(block, Fraction(x)) == y
+               for block in (uppermost(model, x - HALF), uppermost(model, x + HALF)) if block
+               for at, y in block.corners)
+
+
 class Group:
     """Live loads that move together, by the first of them; and the model with shorter joints, if it's to be that."""
 
@@ -105,9 +112,10 @@ class Group:
         self.slants = any(model.loads[number].force[0] for number in self.numbers)
 
     def ends(self) -> Iterator[int]:
-        """The places at which a load passes from one top to another, and, where loads slant, all corners."""
+        """The places at which a load passes from one top to another, and, where loads slant, all corners of tops."""
         for x in sorted({x for block in self.model.blocks for x, _ in block.corners}):
-            if self.slants or seat(self.model, x, -HALF).block != seat(self.model, x, HALF).block:
+            changes = seat(self.model, x, -HALF).block != seat(self.model, x, HALF).block
+            if changes or self.slants and bends(self.model, x):
                 yield x
 
     def places(self) -> list[int]:
@@ -133,7 +141,7 @@ class Group:
             return replace(load, block=where.block, at=[where.x, load.at[1]])
         top = next(height(block, Fraction(where.x)) for block in self.model.blocks if block.name == where.block)
         if top is None or top.denominator > 1:
-            raise Refused(f"a load that slants would act at {where.said()}, at a height that is no whole number")
+            raise Refused(f"a load that slants would act {where.said()}, at a height that is no whole number")
         return replace(load, block=where.block, at=[where.x, int(top)])
 
 

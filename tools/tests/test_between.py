@@ -3,6 +3,8 @@
 
     python3 tools/tests/test_between.py
 """
+import contextlib
+import io
 import random
 import unittest
 from fractions import Fraction
@@ -10,6 +12,7 @@ from pathlib import Path
 
 from helpers import Asked, at_random, example, needs_esolver as setUpModule, post
 
+import draw
 from masonry import model as models, program
 from masonry.lp import linear
 from masonry.model import Load, Model
@@ -51,6 +54,17 @@ class Ends(Asked):
         # Without the sway it draws 10*1/5 at most, and pushes with 10*1/7.
         self.assertEqual(self.solved(swaying, "between", self.cert, *tie)[-1],
                          "between -10/7*sqrt(2) = -2.02030509 and 2/1*sqrt(2) = 2.82842712")
+
+    def test_a_prop_that_is_no_help(self) -> None:
+        # Under a sway of its whole weight the facade falls, and no prop at the side of its roof or under a pier changes
+        # that: the motion of a collapse on which the prop does no work says so.
+        with contextlib.redirect_stdout(io.StringIO()) as out:
+            draw.main(["sway", "1", "0", "facade", "2"])
+        facade = models.model_of(out.getvalue())
+        for prop in (["gtl", "0", "238", "0", "1"], ["gr2", "287", "61", "1", "0"]):
+            self.assertEqual(self.solved(facade, "between", self.cert, "prop", *prop, "1", "1"), [
+                "collapses accepted",
+                "between no factors: on the motion of this collapse the live loads do no work"])
 
     def test_factors_where_0_is_not_carried_under_a_sway(self) -> None:
         # The post of 8 is pushed with 5 to the left at its head, dead: 20 about its left foot, where 8 steadies it. The

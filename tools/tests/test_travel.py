@@ -36,6 +36,18 @@ class Travels(Asked):
         self.assertEqual(self.travelled(example("arches/footbridge"), "1", "-75")[-1],
                          "least of the given places at -75 on v5 144233013/1496000 = 96.4124")
 
+    def test_a_slanting_load_on_a_ring(self) -> None:
+        # It acts on the tops, so that its places are their corners alone; the least is that of the other solver with
+        # the load drawn there.
+        arch = example("arches/footbridge")
+        slanting = replace(arch, loads=[replace(arch.loads[0], force=[3000, -10000])])
+        lines = self.travelled(slanting, "1")
+        self.assertEqual(lines[-1], "least at -134 on v6 103229251111/3062465250 = 33.7079")
+        self.assertEqual(len(lines), 15)
+        corner = next(y for x, y in next(one for one in arch.blocks if one.name == "v6").corners if x == -134)
+        moved = replace(slanting, loads=[replace(slanting.loads[0], block="v6", at=[-134, corner])])
+        self.assertEqual(self.structure(moved)[1].factor(1), Fraction(103229251111, 3062465250))
+
     def test_an_axle_group(self) -> None:
         # With both on it the arch carries 106.4 of each; where one has left it the other alone is the worst.
         arch = example("arches/footbridge-with-two-loads")

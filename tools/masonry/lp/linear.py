@@ -135,12 +135,15 @@ class Opening:
     still: list[int]
 
 
-def opening(structure: Structure) -> Opening:
+def opening(structure: Structure, still: bool = False) -> Opening:
+    """The opening of a structure; with `still` among the motions on which the live loads do no work."""
     names = [f"y{row}" for row in range(len(structure.dead))]
     units: dict[str, tuple[Exact, Exact]] = {}
     rows = []
     for k, edge in enumerate(structure.edges):
         terms, units[f"u{k}"] = {names[row]: amount for row, amount in edge.column.items()}, (0, 1)
         rows.append(Row({**terms, f"u{k}": -sum(abs(amount) for amount in edge.column.values())}, Sign.LEAST, 0))
+    if still:
+        rows.append(Row({name: amount for name, amount in zip(names, structure.live) if amount}, Sign.EQUAL, 0))
     found = Program(dict.fromkeys(units, 1), rows, units, names).reached()
     return Opening([found.value(name) for name in names], [k for k, name in enumerate(units) if not found.value(name)])

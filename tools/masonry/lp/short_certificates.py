@@ -148,9 +148,9 @@ def short_forces(structure: Structure, amounts: Amounts, load: Sequence[int], tr
 
 
 def short_motion(structure: Structure, motion: list[int], spread: Callable[[], Opening],
-                 good: Callable[[Motion], bool]) -> list[int]:
+                 good: Callable[[Motion], bool], still: bool = False) -> list[int]:
     """Whole moves near a multiple of a motion that no bearing resists, and that are good. `spread` is a function that
-    gives the structure's opening."""
+    gives the structure's opening. With `still` the live loads do no work on the moves."""
     greatest = max(abs(x) for x in motion)
     if greatest < 2**40 and good(motion):
         return motion
@@ -159,7 +159,13 @@ def short_motion(structure: Structure, motion: list[int], spread: Callable[[], O
     for k in opened.still:
         for row, amount in structure.edges[k].column.items():
             columns[row][k] = amount
-    lattice = Lattice(columns, [[k] for k in opened.still])
+    groups = [[k] for k in opened.still]
+    if still:
+        for row, amount in enumerate(structure.live):
+            if amount:
+                columns[row][len(structure.edges)] = amount
+        groups.append([len(structure.edges)])
+    lattice = Lattice(columns, groups)
 
     def at(bits: int) -> list[int] | None:
         push = 2 ** (bits // 2) if opened.still else 1

@@ -18,7 +18,7 @@ from masonry.questions import ranges, results
 from masonry.questions.case import Case
 from masonry.questions.results import Loaded, Unlimited
 from masonry.questions.voice import Plain, Silent
-from masonry.statics import Motion, Structure, work
+from masonry.statics import Motion, NotFound, Structure, work
 from masonry.units import Scale
 
 
@@ -153,7 +153,11 @@ def nothing(question: Question, name: str, cert: str, structure: Structure, prog
     def good(motion: Motion) -> bool:
         return work(structure.dead, motion) > 0 and work(structure.live, motion) == 0
 
-    motion = short_motion(structure, linear.fall_anyway(structure), lambda: case.opened, good)
+    exact = linear.fall_anyway(structure)
+    try:
+        motion = short_motion(structure, exact, lambda: linear.opening(structure, still=True), good, still=True)
+    except NotFound:
+        motion = exact
     case.accepted(name, cert, ["collapses", *motion_lines(motion)])
     print("collapses accepted")
     print("between no factors: on the motion of this collapse the live loads do no work")
