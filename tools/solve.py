@@ -9,6 +9,7 @@
     tools/solve.py MODEL between CERT prop A X Y U V [N D]
     tools/solve.py MODEL stages CERT ORDER
     tools/solve.py MODEL slides [N D]
+    tools/solve.py MODEL friction CERT [N D]
 
 Nothing here is proved: only the `accepted` of `check` counts, and nothing is announced that `check` didn't accept.
 `stand` and `load` ask what the program's own forms ask, and write the certificate to CERT. On standard output stands
@@ -44,6 +45,17 @@ factors, and with which N and T at the least of these; then come all joints at t
 `no joint can slide`. Then the factor is no mere upper bound: docs/scope.md. This has no certificate; the script checks
 in fractions the dual numbers that close each of its linear programs.
 
+`friction` asks how much friction is needed, under N/D of the live loads and of the sway, none if not given: for a share
+of all coefficients with which the structure stands, and a lesser one with which it falls. They are within a thousandth
+of each other, or as near as the coefficients of a file can be.
+
+    CERT-stands.toml, CERT-stands.cert      `friction times N/D = DECIMAL stands, accepted`
+    CERT-falls.toml, CERT-falls.cert        `friction times N/D = DECIMAL falls, accepted`
+
+Coefficients that a file can't hold are rounded down where it stands, and up where it falls. `no friction is needed` if
+it stands without any. It is an answer for the model, in which a joint that slides also lifts: a real structure may need
+more.
+
 The status is 0 where all that was asked is accepted, also for a collapse; 2 for wrong words, 9 without a live load, 70
 where something wasn't found, with the reason on standard error; or that of `contacts`, which refuses the model.
 
@@ -65,7 +77,7 @@ from masonry.console import Answer, Ended, Progress, Refused, Words
 from masonry.lp.programs import MISSING
 from masonry.model import Model
 from masonry.numbers import fraction, whole
-from masonry.questions import between, ranges, results, slides, stages
+from masonry.questions import between, frictions, ranges, results, slides, stages
 from masonry.questions.case import Case
 from masonry.units import scale_of
 
@@ -156,7 +168,7 @@ def counted(words: list[str], form: str, *counts: int) -> list[str]:
 
 
 # What follows CERT, without its `.cert`, in the names of the files that are written.
-WRITTEN = r"(-carried|-beyond|-reversed|-\d+)*\.(cert|toml)"
+WRITTEN = r"(-carried|-beyond|-reversed|-stands|-falls|-\d+)*\.(cert|toml)"
 
 
 def spared(read: Sequence[str], question: str, cert: str) -> None:
@@ -194,9 +206,18 @@ def accepted(name: str) -> None:
     models.read(name)
 
 
+def needed_friction(name: str, words: list[str], progress: Progress) -> int:
+    cert, *rest = counted(words, "friction CERT [N D]", 1, 3)
+    acting = fraction(rest[0], rest[1]) if rest else Fraction(0)
+    accepted(name)
+    model, scale = models.read(name), scale_of(models.text_of(name))
+    frictions.needed(model, scale, cert.removesuffix(".cert"), acting, progress)
+    return 0
+
+
 QUESTIONS: dict[str, Callable[[str, list[str], Progress], int]]
 QUESTIONS = {"stand": stand, "load": load, "range": wide_range, "between": wide_between, "stages": wide_stages,
-             "slides": wide_slides}
+             "slides": wide_slides, "friction": needed_friction}
 OF_CERT = "stand", "load", "range", "between"  # which write the file CERT itself
 
 
