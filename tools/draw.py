@@ -52,11 +52,11 @@ from collections.abc import Callable
 from dataclasses import dataclass
 from itertools import combinations
 
-from bench import Refused, Words, ran, shown, whole
-from model import COORDINATE, Block, Joint, Load, Material, Model, printed
-from outside import is_convex, overlap
-from shapes import SMOOTH, Drawing, arch, bonded, coursed, facade, half, ring, rubble, wall
-from units import decimal
+from masonry.console import Refused, Words, ran, shown
+from masonry.model import Block, COORDINATE, Joint, Load, Material, Model, printed
+from masonry.numbers import decimal, whole
+from masonry.open_faces import is_convex, overlap
+from masonry.shapes import Drawing, SMOOTH, arch, bonded, coursed, facade, half, ring, rubble, wall
 
 FREE = 128  # free blocks of a model at most
 

@@ -8,8 +8,8 @@
 Nothing here is proved. Numbers are decimals or fractions; N and D are whole. WEIGHT is the unit weight of the earth, in
 the units of a material's `weight`.
 
-**Earth behind a wall.** The earth lies to the left. Its surface begins at (X, Y), at the back of the wall, and rises to
-the left by BETA degrees. PHI is its angle of friction, DELTA that between earth and wall. KIND of the pressure is
+**Earth behind a wall.** The earth lies to the left. Its surface begins at (X, Y), at the back of the top course that
+it reaches, within a unit of the grid, and rises to the left by BETA degrees. PHI is its angle of friction, DELTA that between earth and wall. KIND of the pressure is
 `dead` unless you write `live`. SURCHARGE is a load on each unit of length along x; its pressure has its own KIND.
 
 The back is each edge of a free block that faces left and that no other body hides. The pressure is Coulomb's active
@@ -48,10 +48,13 @@ of depth, evenly between its edges, and reaches each block by the part that fall
 structure.
 
 Each load is two forces at the ends of an edge, with the same sum and the same moment; only their parts are rounded.
-They stand behind the loads of MODEL, which keep their numbers. Standard error says for each part of the back how it
-leans and its coefficient, and in an earthquake at which part of the height the increment acts. For fill it says how
-much pushes to the right, on the left side of an arch, and how much to the left. Then come the sums of the loads, in
-which both pushes cancel. Look at them.
+They stand behind the loads of MODEL, which keep their numbers. If rounding would change the dead or the live ones by
+more than 0.2 % of their sum, all forces of the model and all weights are multiplied by 2, 5, 10 or more. The first line
+says by what; factors and shares stay the same, and look.py, read.py and region.py divide by it. Add loads of your own
+before you run this script. Standard error says for each part of the back how it leans and its coefficient, and in an
+earthquake at which part of the height the increment acts. For fill it says how much pushes to the right, on the left
+side of an arch, and how much to the left. Then come the sums of the loads, as they are written, in which both pushes
+cancel. Look at them.
 
 The exit status is 2 if the words make no sense, 70 if the earth can't be reckoned or a file can't be read, and that of
 the program if it refuses the model. Python 3.11 or later.
@@ -62,11 +65,13 @@ from enum import Enum
 from fractions import Fraction
 from math import atan, atan2, cos, degrees, hypot, radians, sin, sqrt, tan
 
-from bench import Refused, Words, answer, ran, shown, whole
-from fill import filled, weigh
-from model import Model, printed, read, text_of
-from outside import Laid, Piece, Side, between, open_pieces, with_loads
-from units import Scale, decimal, scale_of
+from masonry.console import Refused, Words, ran, shown
+from masonry.fill import filled, weigh
+from masonry.model import Model, printed, read, text_of
+from masonry.numbers import decimal, whole
+from masonry.open_faces import Laid, Piece, Side, between, open_pieces, with_loads
+from masonry.program import answer
+from masonry.units import Scale, scale_of
 
 NEAR = 1.0  # how far the corners of one back may lie off its line
 HIGHEST = Fraction(2, 3)  # of the height of the back: where the increment of the pressure may act
@@ -233,6 +238,15 @@ class Behind:
         foot = float(min(piece.end[1] for piece in backs))
         self.planes = [plane_of(chain, self.soil, self.start, foot) for chain in chains(backs)]
 
+    def begins(self) -> None:
+        """Refuses a surface that doesn't begin at the back of the top course: on its line, or above its head."""
+        (x, y), (tx, ty) = self.start, map(float, self.planes[0].pieces[0].start)
+        line = tx + (y - ty) * tan(self.planes[0].lean)
+        low, high = sorted((tx, line)) if y > ty else (line, line)
+        if not low - NEAR <= x <= high + NEAR:
+            raise Refused(f"the surface of the earth begins at X = {x:g}, and the back of "
+                          f"{self.planes[0].pieces[0].block}, the top course there, is at {line:.6g}")
+
     def lay(self) -> None:
         for plane in self.planes:
             for piece in plane.pieces:
@@ -335,8 +349,8 @@ def shaken(model: Model, words: list[str]) -> tuple[float, float, float]:
     return sideways, upwards, float(height)
 
 
-def behind(words: list[str]) -> tuple[Model, list[str]]:
-    """The model with the earth behind its wall, and what to say."""
+def behind(words: list[str]) -> tuple[Model, Scale, list[str]]:
+    """The model with the earth behind its wall, by what its forces are multiplied, and what to say."""
     at = words.index("quake") if "quake" in words else len(words)
     words, rest = words[:at], words[at:]
     if len(words) not in (7, 8, 10):
@@ -351,8 +365,10 @@ def behind(words: list[str]) -> tuple[Model, list[str]]:
     sideways, upwards, height = shaken(model, rest)
     soil = Soil(weight, radians(phi), radians(delta), radians(beta), float(surcharge), sideways, upwards, height)
     earth = Behind(model, soil, (x, y), kinds)
+    earth.begins()
     earth.lay()
-    return model, earth.lines() + with_loads(model, earth.laid)
+    made, scale, lines = with_loads(model, earth.laid)
+    return made, scale, earth.lines() + lines
 
 
 def numbers(words: list[str]) -> tuple[float, float, float, float, float, float]:
@@ -365,8 +381,8 @@ def numbers(words: list[str]) -> tuple[float, float, float, float, float, float]
 
 def main(words: list[str]) -> int:
     is_fill = words[0] == "fill"
-    model, lines = filled(words[1:]) if is_fill else behind(words)
-    scale = scale_of(text_of(words[1] if is_fill else words[0]))
+    model, more, lines = filled(words[1:]) if is_fill else behind(words)
+    scale = scale_of(text_of(words[1] if is_fill else words[0])).times(more)
     sys.stdout.write((scale.line() if scale != Scale() else "") + printed(model))
     for line in lines:
         print(line, file=sys.stderr)

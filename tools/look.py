@@ -3,9 +3,13 @@
 
     tools/look.py MODEL [NEAR [UNIT]]
 
-Nothing here is proved. NEAR is a distance in units of the grid, 1 if you don't give it. UNIT is what a force of 1 is in
-kN: with it weights and loads are in kN. The lines:
+Nothing here is proved. NEAR is a distance in units of the grid, 1 if you don't give it. UNIT is what a force of 1 of the
+structure is in kN: with it weights and loads are in kN. The lines:
 
+    multiplied forces N    all forces of this model are N times those of the structure, as its first line says. With UNIT
+                           weights and loads are divided by N, and the line isn't there
+    multiplied lengths N   all lengths are N times those of the structure: places, areas and NEAR are those of the model
+    off A X Y GAP          a load on A acts at (X, Y), beside A, at this distance from it; less than 2 isn't told
     near A B X Y GAP       the corner (X, Y) of A lies within NEAR of an edge of B, on which A doesn't bear
     touch A B X Y          A and B share only this corner, where no force acts; so do stones whose corners meet by fours
     single A B X Y         the joint of A and B is one bearing, at (X, Y)
@@ -16,9 +20,9 @@ kN: with it weights and loads are in kN. The lines:
     load sway 1 FX FY      the sum of the sway's loads
     fixed A ..             the fixed bodies
 
-The first five are mostly mistakes, but for touches where four corners meet. Compare the others with what you know of
-the structure. The exit status is 0, whatever is found. It is that of the program if it refuses
-the model, 70 if a file can't be read, and 2 if the words make no sense. Python 3.11 or later.
+Those from `off` to `apart` are mostly mistakes, but for touches where four corners meet. Compare the others with what
+you know of the structure. The exit status is 0, whatever is found. It is that of the program if it refuses the model,
+70 if a file can't be read, and 2 if the words make no sense. Python 3.11 or later.
 """
 import sys
 from collections.abc import Iterable
@@ -26,10 +30,14 @@ from dataclasses import dataclass
 from fractions import Fraction
 from math import ceil, sqrt
 
-from bench import Words, answer, ran
-from model import Bearing, Block, Model, Point, bearings_of, read, twice_area
-from outside import edges, minus
-from units import decimal, number
+from masonry.console import Words, ran
+from masonry.model import Bearing, Block, Model, Point, bearings_of, read, text_of, twice_area
+from masonry.numbers import decimal, number
+from masonry.open_faces import cross, edges, minus
+from masonry.program import answer
+from masonry.units import Scale, scale_of
+
+BESIDE = 2  # a load that is nearer to its block may lie beside it since its place was rounded
 
 
 @dataclass(frozen=True)
@@ -75,6 +83,15 @@ def near_misses(model: Model, meets: dict[str, set[str]], distance: Fraction) ->
                     yield f"near {one.name} {other.name} {x} {y} {number(sqrt(gap))}"
 
 
+def off_blocks(model: Model, most: int) -> Iterable[str]:
+    """The loads that act beside their block, further from it than the rounding of a place explains."""
+    sides = {block.name: edges(block) for block in model.blocks}
+    for name, x, y in dict.fromkeys((load.block, load.at[0], load.at[1]) for load in model.loads):
+        gap = min(square((x, y), *edge) for edge in sides[name])
+        if gap >= most ** 2 and any(cross(minus(b, a), minus((x, y), a)) < 0 for a, b in sides[name]):
+            yield f"off {name} {x} {y} {number(sqrt(gap))}"
+
+
 def carried(bearings: Iterable[Bearing]) -> set[str]:
     """The bodies that some bearing can press upwards, on one edge of its cone at least."""
     found = set()
@@ -95,6 +112,14 @@ def loose(model: Model, meets: dict[str, set[str]]) -> list[str]:
         seen |= more
         held += more
     return [block.name for block in model.blocks if block.name not in seen]
+
+
+def multiplied(scale: Scale, in_kn: bool) -> Iterable[str]:
+    """What the first line of a model says, where nothing is divided by it."""
+    if scale.forces != 1 and not in_kn:
+        yield f"multiplied forces {scale.forces}"
+    if scale.lengths != 1:
+        yield f"multiplied lengths {scale.lengths}"
 
 
 def sums(model: Model, unit: Fraction) -> Iterable[str]:
@@ -145,11 +170,13 @@ def looked(model: Model, table: str, distance: Fraction, unit: Fraction) -> Iter
 def main(words: list[str]) -> int:
     if len(words) > 3:
         raise Words("the words are MODEL [NEAR [UNIT]]")
-    name, near, unit = [*words, "1", "1"][:3] if len(words) < 2 else [*words, "1"][:3]
+    name, near, unit = [*words, *["1"] * (3 - len(words))]
     distance = decimal(near, "NEAR", 0, 10**6)
-    force = decimal(unit, "UNIT", Fraction(1, 10**12), 10**12)
-    for line in looked(read(name), answer("contacts", name), distance, force):
-        print(line)
+    force, in_kn = decimal(unit, "UNIT", Fraction(1, 10**12), 10**12), len(words) == 3
+    model, scale = read(name), scale_of(text_of(name))
+    lines = [*multiplied(scale, in_kn), *off_blocks(model, BESIDE * scale.lengths),
+             *looked(model, answer("contacts", name), distance, force / scale.forces if in_kn else force)]
+    print(*lines, sep="\n")
     return 0
 
 

@@ -55,10 +55,12 @@ from dataclasses import dataclass, field
 from fractions import Fraction
 from pathlib import Path
 
-from bench import Refused, Words, answer, ran, shown
-from model import Bearing, Block, Model, bearings_of, put, read, text_of, write
-from motion import Motion, Move, joints_of
-from units import Scale, Units, decimal, number, scale_of
+from masonry.console import Refused, Words, ran, shown
+from masonry.model import Bearing, Block, Model, bearings_of, put, read, text_of, write
+from masonry.motion import Motion, Move, joints_of
+from masonry.numbers import decimal, number, with_decimal
+from masonry.program import answer
+from masonry.units import Scale, Units, scale_of
 
 PART = "0.000001"
 Force = tuple[Fraction, Fraction]
@@ -97,14 +99,6 @@ def table_of(model: str | Path, certificate: str | Path) -> Table:
     return table
 
 
-def fraction(value: Fraction | str) -> str:
-    """A fraction and its decimal, or a word as it is."""
-    if value == "unlimited":
-        return "unlimited"
-    exact = Fraction(value)
-    return f"{exact.numerator}/{exact.denominator} = {number(exact)}"
-
-
 def thrust(bearings: Sequence[Bearing], forces: Sequence[Force], units: Units) -> str:
     """What a joint bears: its normal and its tangential force, the place of both, and how far along it that is."""
     parts = [bearing.parts(*force) for bearing, force in zip(bearings, forces)]
@@ -124,7 +118,7 @@ def lines_of(table: Table, blocks: Sequence[Block], asked: Asked, sign: int = 1)
     """The lines of a certificate. In the reversed model the sign of the factor is -1."""
     joints = joints_of(table.bearings)
     if table.factor is not None:
-        yield f"factor {fraction(sign * table.factor)}"
+        yield f"factor {with_decimal(sign * table.factor)}"
     for word, forces in table.forces.items():
         for (first, second), indices in joints.items():
             bears = thrust([table.bearings[k] for k in indices], [forces[k] for k in indices], asked.units)
@@ -146,7 +140,7 @@ def end_of(value: str, name: str) -> str:
     """An end of a range, a fraction or `unlimited`."""
     if value != "unlimited" and not re.fullmatch(r"-?[0-9]+/[1-9][0-9]*", value, re.ASCII):
         raise Refused(f"{name}: an end of a range can't be {shown(value)}")
-    return fraction(value)
+    return with_decimal(value)
 
 
 def lines_of_range(name: str, model: Model, certificate: str, said: str, asked: Asked) -> Iterable[str]:

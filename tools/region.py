@@ -52,14 +52,14 @@ from enum import Enum
 from fractions import Fraction
 from math import atan2
 
-import bench
-import pairs
-from bench import Progress, Words
-from model import text_of
-from pairs import Direction, Half, Region, lowest, region_of
-from programs import Exact
-from settle import ratio
-from units import decimal, scale_of
+from masonry import console
+from masonry.console import Progress, Words
+from masonry.lp.programs import Exact
+from masonry.model import text_of
+from masonry.numbers import decimal, ratio
+from masonry.questions import pairs
+from masonry.questions.pairs import Direction, Half, Region, lowest, region_of
+from masonry.units import scale_of
 
 MOSTS = 10**3, 10**6, 10**9  # the greatest number of a direction: at first, and where that comes no nearer
 LINES = 1000  # the most lines of a file of directions
@@ -298,7 +298,7 @@ def asked(words: list[str]) -> int:
 
 
 def main(words: list[str]) -> int:
-    return bench.ran(asked, "region", __doc__, words)
+    return console.ran(asked, "region", __doc__, words)
 
 
 if __name__ == "__main__":

@@ -9,6 +9,7 @@
     tools/solve.py MODEL between CERT prop A X Y U V [N D]
     tools/solve.py MODEL stages CERT ORDER
     tools/solve.py MODEL slides [N D]
+    tools/solve.py MODEL friction CERT [N D]
 
 Nothing here is proved: only the `accepted` of `check` counts, and nothing is announced that `check` didn't accept.
 `stand` and `load` ask what the program's own forms ask, and write the certificate to CERT. On standard output stands
@@ -44,6 +45,17 @@ factors, and with which N and T at the least of these; then come all joints at t
 `no joint can slide`. Then the factor is no mere upper bound: docs/scope.md. This has no certificate; the script checks
 in fractions the dual numbers that close each of its linear programs.
 
+`friction` asks how much friction is needed, under N/D of the live loads and of the sway, none if not given: for a share
+of all coefficients with which the structure stands, and a lesser one with which it falls. They are within a thousandth
+of each other, or as near as the coefficients of a file can be.
+
+    CERT-stands.toml, CERT-stands.cert      `friction times N/D = DECIMAL stands, accepted`
+    CERT-falls.toml, CERT-falls.cert        `friction times N/D = DECIMAL falls, accepted`
+
+Coefficients that a file can't hold are rounded down where it stands, and up where it falls. `no friction is needed` if
+it stands without any. It is an answer for the model, in which a joint that slides also lifts: a real structure may need
+more.
+
 The status is 0 where all that was asked is accepted, also for a collapse; 2 for wrong words, 9 without a live load, 70
 where something wasn't found, with the reason on standard error; or that of `contacts`, which refuses the model.
 
@@ -52,24 +64,22 @@ program, which is else the script `pungiroe` in the folder above this one. Pytho
 docs/other_solvers.md explains the method.
 """
 import os
+import re
 import shutil
 import sys
-from collections.abc import Callable
+from collections.abc import Callable, Iterator, Sequence
+from contextlib import contextmanager, nullcontext
 from dataclasses import replace
 from fractions import Fraction
 
-import bench
-import between
-import model as models
-import ranges
-import settle
-import slides
-import stages
-from bench import Answer, Ended, Progress, Refused, Words
-from model import Model
-from programs import MISSING
-from settle import Case
-from units import scale_of
+from masonry import console, model as models, program
+from masonry.console import Answer, Ended, Progress, Refused, Words
+from masonry.lp.programs import MISSING
+from masonry.model import Model
+from masonry.numbers import fraction, whole
+from masonry.questions import between, frictions, ranges, results, slides, stages
+from masonry.questions.case import Case
+from masonry.units import scale_of
 
 NO_LIVE = Answer(9, "", "no live load")
 MICRO = 2  # how far two shares may be apart, in millionths, if no number is given
@@ -77,15 +87,14 @@ MICRO = 2  # how far two shares may be apart, in millionths, if no number is giv
 
 def stand(name: str, words: list[str], progress: Progress) -> int:
     cert, = counted(words, "stand CERT", 1)
-    case = Case(name, cert, progress)
-    case.structure  # so that what the program refuses is its refusal
-    case.stand()
+    accepted(name)
+    Case(name, cert, progress).stand()
     return 0
 
 
 def load(name: str, words: list[str], progress: Progress) -> int:
     case = live_case(name, counted(words, "load CERT [MICRO]", 1, 2), progress)
-    return 0 if settle.whole(case.load()) else 70
+    return 0 if results.is_whole(case.load()) else 70
 
 
 def wide_range(name: str, words: list[str], progress: Progress) -> int:
@@ -98,7 +107,7 @@ def wide_between(name: str, words: list[str], progress: Progress) -> int:
     kind = rest[0] if rest else ""
     if len(rest) not in {"": (0,), "tie": (7, 9), "prop": (6, 8)}.get(kind, ()):
         raise Words("the form is MODEL between CERT [tie A X Y B U V [N D]] or [prop A X Y U V [N D]]")
-    bench.answer("contacts", name)
+    accepted(name)
     model = models.read(name)
     if kind:
         question = tie_or_prop(model, kind, rest[1:])
@@ -113,37 +122,39 @@ def wide_between(name: str, words: list[str], progress: Progress) -> int:
 def tie_or_prop(model: Model, kind: str, words: list[str]) -> between.Question:
     """The question of the words after `tie` or `prop`."""
     count = 6 if kind == "tie" else 5
-    share = bench.fraction(words[count], words[count + 1]) if words[count:] else Fraction(0)
+    share = fraction(words[count], words[count + 1]) if words[count:] else Fraction(0)
     if kind == "tie":
         return between.tie(model, (words[0], words[3]), (point(words[1:3], "X Y"), point(words[4:6], "U V")), share)
     return between.prop(model, words[0], point(words[1:3], "X Y"), point(words[3:5], "U V"), share)
 
 
 def point(words: list[str], called: str) -> list[int]:
-    return [bench.whole(word, one, -models.COORDINATE, models.COORDINATE)
+    return [whole(word, one, -models.COORDINATE, models.COORDINATE)
             for word, one in zip(words, called.split())]
 
 
 def wide_stages(name: str, words: list[str], progress: Progress) -> int:
     cert, order = counted(words, "stages CERT ORDER", 2)
+    accepted(name)
     stages.staged(name, cert, order, progress)
     return 0
 
 
 def wide_slides(name: str, words: list[str], progress: Progress) -> int:
     counted(words, "slides [N D]", 0, 2)
-    wanted = bench.fraction(words[0], words[1]) if words else None
+    wanted = fraction(words[0], words[1]) if words else None
     if wanted is not None and wanted < 0:
         raise Words("N must be at least 0")
+    accepted(name)
     slides.slides(name, wanted, progress)
     return 0
 
 
 def live_case(name: str, words: list[str], progress: Progress) -> Case:
     """A model with a live load, and where its certificate goes."""
-    micro = bench.whole(words[1], "MICRO", 1, 10**6) if words[1:] else MICRO
+    micro = whole(words[1], "MICRO", 1, 10**6) if words[1:] else MICRO
+    accepted(name)
     case = Case(name, words[0], progress, part=Fraction(micro, 2 * 10**6))
-    case.structure
     if not case.model.has_live():
         raise Ended(NO_LIVE)
     return case
@@ -156,38 +167,74 @@ def counted(words: list[str], form: str, *counts: int) -> list[str]:
     return words
 
 
-def spared(name: str, question: str, cert: str) -> None:
-    """Refuses a CERT with which a file that is written would take the place of MODEL."""
-    stem = cert.removesuffix(".cert")
-    written = [cert, *(f"{stem}-{word}.toml" for word in ("carried", "beyond", "reversed"))]
-    if question == "between":
-        written.append(stem + ".toml")
+# What follows CERT, without its `.cert`, in the names of the files that are written.
+WRITTEN = r"(-carried|-beyond|-reversed|-stands|-falls|-\d+)*\.(cert|toml)"
+
+
+def spared(read: Sequence[str], question: str, cert: str) -> None:
+    """Refuses a CERT with which a file that is written could take the place of one that is read, or that is no regular
+    file."""
     try:
-        taken = os.path.realpath(name) in {os.path.realpath(it) for it in written}
+        stem, place, *names = (os.path.realpath(it) for it in (cert.removesuffix(".cert"), cert, *read))
+        taken = [called for called, name in zip(("MODEL", "ORDER"), names)
+                 if name == place or re.fullmatch(re.escape(stem) + WRITTEN, name)
+                 and (question == "between" or name != stem + ".toml")]
     except ValueError:  # no name of a file, as is said when it is opened
         return
     if taken:
-        raise Words("CERT would take the place of MODEL")
+        raise Words(f"CERT would take the place of {taken[0]}")
+    models.writable(cert)
+
+
+@contextmanager
+def telling_of_old(cert: str) -> Iterator[None]:
+    """Says at the end that a file of this name is still the one that was there before, if it is."""
+    def which() -> int | None:
+        return os.stat(cert).st_ino if "\0" not in cert and os.path.isfile(cert) else None
+
+    before = which()
+    try:
+        yield
+    finally:
+        if before is not None and which() == before:
+            console.said(f"solve: {console.plain(cert)} is still what it was before", 0)
+
+
+def accepted(name: str) -> None:
+    """Ends with what the program says of a model that it refuses; and refuses one in which nothing could fall."""
+    program.answer("contacts", name)
+    models.read(name)
+
+
+def needed_friction(name: str, words: list[str], progress: Progress) -> int:
+    cert, *rest = counted(words, "friction CERT [N D]", 1, 3)
+    acting = fraction(rest[0], rest[1]) if rest else Fraction(0)
+    accepted(name)
+    model, scale = models.read(name), scale_of(models.text_of(name))
+    frictions.needed(model, scale, cert.removesuffix(".cert"), acting, progress)
+    return 0
 
 
 QUESTIONS: dict[str, Callable[[str, list[str], Progress], int]]
 QUESTIONS = {"stand": stand, "load": load, "range": wide_range, "between": wide_between, "stages": wide_stages,
-             "slides": wide_slides}
+             "slides": wide_slides, "friction": needed_friction}
+OF_CERT = "stand", "load", "range", "between"  # which write the file CERT itself
 
 
 def asked(words: list[str]) -> int:
     if len(words) < 2 or words[1] not in QUESTIONS:
         raise Words(f"after MODEL stands one of {', '.join(QUESTIONS)}")
-    if words[1] != "slides" and words[2:]:
-        spared(words[0], words[1], words[2])
+    name, question, *rest = words
+    if question != "slides" and rest:
+        spared([name, *rest[1:]] if question == "stages" else [name], question, rest[0])
     if shutil.which("esolver") is None:
         raise Refused(MISSING)
-    with Progress("solve") as progress:
-        return QUESTIONS[words[1]](words[0], words[2:], progress)
+    with Progress("solve") as progress, telling_of_old(rest[0]) if rest and question in OF_CERT else nullcontext():
+        return QUESTIONS[question](name, rest, progress)
 
 
 def main(words: list[str]) -> int:
-    return bench.ran(asked, "solve", __doc__, words)
+    return console.ran(asked, "solve", __doc__, words)
 
 
 if __name__ == "__main__":

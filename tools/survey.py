@@ -33,10 +33,10 @@ from fractions import Fraction
 from itertools import combinations
 from math import gcd, hypot
 
-from bench import Refused, Words, ran, shown, whole
-from model import COORDINATE, WEIGHT, Block, Material, Model, Point, printed, text_of
-from outside import is_convex, overlap
-from units import decimal, number
+from masonry.console import Refused, Words, ran, shown
+from masonry.model import Block, COORDINATE, Material, Model, Point, WEIGHT, printed, text_of
+from masonry.numbers import decimal, number, whole
+from masonry.open_faces import is_convex, overlap
 
 NAME = re.compile(r"[A-Za-z0-9_-]{1,32}", re.ASCII)
 HEADING = ["block", "material", "x", "y"]

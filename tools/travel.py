@@ -40,16 +40,17 @@ from fractions import Fraction
 from math import ceil, floor
 from pathlib import Path
 
-import bench
-import model as models
-import settle
-from bench import Progress, Refused, Words
-from inset import Inset, inset
-from model import Block, Load, Model
-from settle import Case, Collapses, Known, Loaded, Silent, Unlimited
-from short import Tried
-from statics import NotFound
-from units import decimal
+from masonry import console, model as models, numbers, program
+from masonry.console import Progress, Refused, Words
+from masonry.inset import Inset, inset
+from masonry.lp.short_certificates import Tried
+from masonry.model import Block, Load, Model
+from masonry.numbers import decimal, nine_digits, ratio, whole
+from masonry.questions import results
+from masonry.questions.case import Case, Known
+from masonry.questions.results import Collapses, Loaded, Unlimited
+from masonry.questions.voice import Silent
+from masonry.statics import NotFound
 
 HALF = Fraction(1, 2)  # corners have whole coordinates, so nothing changes within half a unit beside one
 
@@ -89,6 +90,13 @@ def seat(model: Model, x: int, side: Fraction) -> Seat:
 # Places
 
 
+def bends(model: Model, x: int) -> bool:
+    """Whether a corner of a top that is uppermost lies there."""
+    return any(at == x and height(block, Fraction(x)) == y
+               for block in (uppermost(model, x - HALF), uppermost(model, x + HALF)) if block
+               for at, y in block.corners)
+
+
 class Group:
     """Live loads that move together, by the first of them; and the model with shorter joints, if it's to be that."""
 
@@ -104,9 +112,10 @@ class Group:
         self.slants = any(model.loads[number].force[0] for number in self.numbers)
 
     def ends(self) -> Iterator[int]:
-        """The places at which a load passes from one top to another, and, where loads slant, all corners."""
+        """The places at which a load passes from one top to another, and, where loads slant, all corners of tops."""
         for x in sorted({x for block in self.model.blocks for x, _ in block.corners}):
-            if self.slants or seat(self.model, x, -HALF).block != seat(self.model, x, HALF).block:
+            changes = seat(self.model, x, -HALF).block != seat(self.model, x, HALF).block
+            if changes or self.slants and bends(self.model, x):
                 yield x
 
     def places(self) -> list[int]:
@@ -132,7 +141,7 @@ class Group:
             return replace(load, block=where.block, at=[where.x, load.at[1]])
         top = next(height(block, Fraction(where.x)) for block in self.model.blocks if block.name == where.block)
         if top is None or top.denominator > 1:
-            raise Refused(f"a load that slants would act at {where.said()}, at a height that is no whole number")
+            raise Refused(f"a load that slants would act {where.said()}, at a height that is no whole number")
         return replace(load, block=where.block, at=[where.x, int(top)])
 
 
@@ -156,14 +165,13 @@ class Place:
         """Whether there are a factor that is carried and one that isn't, or no limit."""
         if isinstance(self.found, Unlimited):
             return True
-        return self.found is not None and None not in (settle.lower(self.found), settle.upper(self.found))
+        return self.found is not None and None not in (results.lower(self.found), results.upper(self.found))
 
 
 def number(value: Fraction, rounded: str = "") -> str:
     """A fraction and six digits of it, rounded down or up where that is asked."""
     ways = {"carried": floor, "beyond": ceil}
-    return f"{settle.ratio(value)} = {float(value):.6g}" if not rounded else \
-        f"{settle.ratio(value)} = {settle.decimal(value, ways[rounded])}"
+    return f"{ratio(value)} = {nine_digits(value, ways[rounded]) if rounded else numbers.number(value, 0)}"
 
 
 def carries(found: Loaded) -> str:
@@ -172,7 +180,7 @@ def carries(found: Loaded) -> str:
         return "unlimited"
     if isinstance(found, Collapses):
         return "collapses"
-    low, high = settle.lower(found), settle.upper(found)
+    low, high = results.lower(found), results.upper(found)
     if low is not None and low == high:
         return number(low)
     parts = [f"{word} {number(value, word)}" for word, value in (("carried", low), ("beyond", high))
@@ -184,14 +192,14 @@ def least(places: Sequence[Place]) -> Place | None:
     """The place that carries least. If shares were found, its answer has the least that is carried at all places, and
     the least that isn't at some. None where all are unlimited."""
     limited = [one for one in places if one.found and not isinstance(one.found, Unlimited)]
-    lows = [(low, k) for k, one in enumerate(limited) if one.found and (low := settle.lower(one.found)) is not None]
-    highs = [high for one in limited if one.found and (high := settle.upper(one.found)) is not None]
+    lows = [(low, k) for k, one in enumerate(limited) if one.found and (low := results.lower(one.found)) is not None]
+    highs = [high for one in limited if one.found and (high := results.upper(one.found)) is not None]
     if not lows:
         return None
     low, k = min(lows)
     found = limited[k].found
     if low != min(highs):
-        found = settle.Shares(low, min(highs), None, True)
+        found = results.Shares(low, min(highs), None, True)
     return Place(limited[k].seats, found)
 
 
@@ -230,7 +238,7 @@ def said_least(word: str, places: Sequence[Place]) -> str:
 
 def group_of(name: str, numbers: Sequence[int], shorter: Fraction | None) -> tuple[Group, str]:
     """The loads that move, and the table of contacts of the model on which they do."""
-    table, model = bench.answer("contacts", name), models.read(name)
+    table, model = program.answer("contacts", name), models.read(name)
     if shorter is None:
         return Group(model, numbers), table
     made = inset(model, models.bearings_of(table), shorter)
@@ -239,18 +247,18 @@ def group_of(name: str, numbers: Sequence[int], shorter: Fraction | None) -> tup
     with tempfile.TemporaryDirectory() as folder:
         short = str(Path(folder, "model.toml"))
         models.write(short, made.model)
-        return Group(model, numbers, made), bench.answer("contacts", short)
+        return Group(model, numbers, made), program.answer("contacts", short)
 
 
 def travel(words: list[str]) -> int:
     is_inset = words[2:3] == ["inset"]
     if len(words) < (4 if is_inset else 2):
         raise Words("the form is MODEL N [inset D] [X ..]")
-    numbers = [bench.whole(word, "N") for word in words[1].split(",")]
+    loads = [whole(word, "N") for word in words[1].split(",")]
     shorter = decimal(words[3], "D", Fraction(1, 10**6), models.COORDINATE) if is_inset else None
-    given = [bench.whole(word, "X", -models.COORDINATE, models.COORDINATE) for word in words[4 if is_inset else 2:]]
+    given = [whole(word, "X", -models.COORDINATE, models.COORDINATE) for word in words[4 if is_inset else 2:]]
     with Progress("travel") as progress:
-        group, table = group_of(words[0], numbers, shorter)
+        group, table = group_of(words[0], loads, shorter)
         known = Known(table, tried={of: Tried() for of in ("ray", "greatest", "carried")})
         return asked_along(group, given, progress, known)
 
@@ -277,7 +285,7 @@ def asked_along(group: Group, given: Sequence[int], progress: Progress, known: K
 
 
 def main(words: list[str]) -> int:
-    return bench.ran(travel, "travel", __doc__, words)
+    return console.ran(travel, "travel", __doc__, words)
 
 
 if __name__ == "__main__":

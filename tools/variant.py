@@ -26,7 +26,8 @@ The others are for questions of your own:
 
 - `without`: the blocks and fixed bodies of these names, and the loads on them, are left out: a centring that is struck,
   a chimney that is taken down.
-- `with`: one more load, `dead` or `live`, on a free block, at (X, Y), with the force (FX, FY).
+- `with`: one more load, `dead` or `live`, on a free block, at (X, Y), with the force (FX, FY). A model whose first line
+  says that forces or lengths are multiplied is refused: add the load first.
 - `inset`: each joint is shorter by D at each end, and by a little more where that is needed to end on a point of the
   grid. D is a decimal number or a fraction, in units of the grid of MODEL. Corners are cut for it, of fixed bodies too.
   The grid of the new model is finer, M times if you give M. Else the script takes the least M up to 1,000 with which no
@@ -45,10 +46,12 @@ from collections.abc import Callable
 from dataclasses import dataclass, replace
 from fractions import Fraction
 
-from bench import Refused, Words, answer, ran, shown, whole
-from inset import inset
-from model import COORDINATE, FORCE, LOADS, Load, Model, bearings_of, multiple, printed, read, share, text_of
-from units import Scale, decimal, scale_of
+from masonry.console import Refused, Words, ran, shown
+from masonry.inset import inset
+from masonry.model import COORDINATE, FORCE, LOADS, Load, Model, bearings_of, multiple, printed, read, share, text_of
+from masonry.numbers import decimal, whole
+from masonry.program import answer
+from masonry.units import Scale, scale_of
 
 MOST = 10**9  # a number of a share or of a direction
 
@@ -85,7 +88,10 @@ def with_load(name: str, words: list[str]) -> Model:
         raise Words(f"KIND must be dead or live, and is {shown(kind)}")
     x, y = (whole(word, called, -COORDINATE, COORDINATE) for word, called in zip(words[2:4], ("X", "Y")))
     u, v = (whole(word, called, -FORCE, FORCE) for word, called in zip(words[4:], ("FX", "FY")))
-    model = read(name)
+    model, scale = read(name), scale_of(text_of(name))
+    if scale != Scale():
+        raise Refused(f"{name}: its first line says that forces or lengths are multiplied, so (X, Y) and (FX, FY) would "
+                      "be others than those of the structure: add the load before you multiply")
     if block not in (one.name for one in model.free_blocks()):
         raise Refused(f"no free block is named {shown(block)}")
     if len(model.loads) == LOADS:
@@ -149,6 +155,8 @@ def in_form(form: str, words: list[str]) -> str:
     """The text of the model that these words, from MODEL on, ask for."""
     name, *rest = words
     model, more = FORMS[form].made(name, rest)
+    if not model.free_blocks():
+        raise Refused("no free block is left, so there is nothing that could fall")
     scale = scale_of(text_of(name)).times(more or Scale())
     return (scale.line() if more or scale != Scale() else "") + printed(model)
 

@@ -1,0 +1,1 @@
+"""Linear programs, and certificates of short whole numbers."""

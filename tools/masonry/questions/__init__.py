@@ -1,0 +1,1 @@
+"""Questions about a model, each with a certificate that `check` accepts."""

@@ -1,0 +1,241 @@
+"""Two groups of live loads, or the sway, raised together: what is carried in a direction, and what bounds it.
+
+Nothing here is proved. Where I and J are numbers of loads the program's `yield` answers, in all directions that it
+takes. Else, and where it refuses, each direction is a model of its own: the program's `load` answers, or linear
+programs do. Each answer has a certificate that `check` accepts.
+"""
+import re
+import tempfile
+from collections.abc import Iterable, Sequence
+from dataclasses import dataclass, field, replace
+from fractions import Fraction
+from math import gcd, hypot
+from pathlib import Path
+
+from masonry import model as models, program
+from masonry.console import Answer, Ended, Refused, Telling, shown
+from masonry.model import Load, Model
+from masonry.numbers import whole
+from masonry.questions import results
+from masonry.questions.case import Case
+from masonry.questions.results import Collapses, Greatest, Shares, Unlimited
+from masonry.questions.voice import Silent
+from masonry.statics import Motion, work
+
+
+YIELD, LINES = 1000, 64  # the greatest number of a direction that `yield` takes, and its most lines
+SWAY = 1000  # the greatest number of a model's sway
+WIDE = 7  # the status of numbers that are too wide
+
+Direction = tuple[int, int]
+At = tuple[Fraction, Fraction]
+Half = tuple[int, int, int]
+
+
+@dataclass
+class Region:
+    """What is known. Directions and half-planes are whole numbers in lowest terms, and points are fractions."""
+    points: dict[Direction, At] = field(default_factory=dict)
+    unlimited: list[Direction] = field(default_factory=list)
+    refused: dict[Direction, str] = field(default_factory=dict)
+    halves: list[Half] = field(default_factory=list)
+
+    def asked(self) -> set[Direction]:
+        return {lowest(one) for one in (*self.points, *self.unlimited, *self.refused)}
+
+    def bounded(self, half: Half) -> None:
+        common = gcd(*half) or 1
+        half = half[0] // common, half[1] // common, half[2] // common
+        if half not in self.halves:
+            self.halves.append(half)
+
+
+def lowest(direction: Direction) -> Direction:
+    """A direction in lowest terms."""
+    common = gcd(*direction) or 1
+    return direction[0] // common, direction[1] // common
+
+
+# Groups
+
+
+@dataclass(frozen=True)
+class Group:
+    """The words of a group, the numbers of its loads, counted from 0, and whether the sway is one of them."""
+    words: str
+    numbers: tuple[int, ...]
+    sways: bool
+
+    def alone(self) -> bool:
+        """Whether it is one load."""
+        return len(self.numbers) == 1 and not self.sways
+
+    def of(self, model: Model) -> list[Load]:
+        return [model.loads[number] for number in self.numbers]
+
+    def live(self, model: Model) -> list[int]:
+        """The loads of the group alone, by rows, in sixths."""
+        only = replace(model, loads=self.of(model), sway=model.sway if self.sways else None)
+        return [amount for _, live in models.wrenches(only).values() for amount in live]
+
+    def size(self, model: Model) -> float:
+        """The size of the sum of its loads, or 1 of the sway, of which the factor is a share."""
+        if self.sways:
+            return 1.0
+        size = hypot(*(sum(load.force[axis] for load in self.of(model)) for axis in (0, 1)))
+        if not size:
+            raise Refused(f"the loads {self.words} come to no force, so nothing is its size")
+        return size
+
+
+def group_of(model: Model, words: str) -> Group:
+    """The group of words such as 3, 3,5 and 4,sway."""
+    parts = words.split(",")
+    numbers = tuple(whole(word, "the number of a load", 1) - 1 for word in parts if word != "sway")
+    sways = len(numbers) < len(parts)
+    for number in numbers:
+        if number >= len(model.loads) or model.loads[number].kind != "live":
+            raise Refused(f"there is no live load {number + 1}")
+    if sways and not any(model.sway or ()):
+        raise Refused("the model has no sway")
+    if len(set(numbers)) + sways < len(parts):
+        raise Refused(f"{shown(words)} names one load twice")
+    return Group(words, numbers, sways)
+
+
+@dataclass(frozen=True)
+class Pair:
+    """A model's two groups, I and J, which have no load in common."""
+    name: str
+    model: Model
+    one: Group
+    other: Group
+
+    def directed(self, direction: Direction) -> Model:
+        """The model of a direction. Its live loads are those of I times its first number, and of J times its second."""
+        (m, n), model = direction, self.model
+        forces = [(load.block, load.at, load.times(times).force) for group, times in ((self.one, m), (self.other, n))
+                  for load in group.of(model) if times]
+        times = m * self.one.sways + n * self.other.sways
+        sway = [times * part for part in model.sway or (0, 0)]
+        if any(abs(part) > SWAY for part in sway):
+            raise Refused(f"a sway beyond {SWAY}")
+        loads = [*model.dead_loads(), *models.listed(forces, "live")]
+        if len(loads) > models.LOADS:
+            raise Refused(f"more than {models.LOADS} loads")
+        return replace(model, loads=loads, sway=sway if any(sway) else None)
+
+    def half(self, motion: Motion) -> Half:
+        """The half-plane of a motion that no bearing resists."""
+        dead = [amount for dead, _ in models.wrenches(self.model).values() for amount in dead]
+        works = [work(load, motion) for load in (self.one.live(self.model), self.other.live(self.model), dead)]
+        return int(works[0]), int(works[1]), -int(works[2])
+
+
+def pair_of(name: str, i: str, j: str) -> Pair:
+    program.answer("contacts", name)
+    model = models.read(name)
+    one, other = group_of(model, i), group_of(model, j)
+    if set(one.numbers) & set(other.numbers) or one.sways and other.sways:
+        raise Refused(f"{shown(i)} and {shown(j)} have a load in common")
+    return Pair(name, model, one, other)
+
+
+# Directions
+
+
+def directions_of(name: str) -> list[Direction] | None:
+    """The directions of a file; None where a line is none."""
+    found = []
+    for line in models.text_of(name).splitlines(keepends=True):
+        if not re.fullmatch(r"dir (0|-?[1-9]\d{0,30}) (0|-?[1-9]\d{0,30})\n", line, re.ASCII):
+            return None
+        m, n = map(int, line.split()[1:])
+        if m == n == 0:
+            return None
+        found.append((m, n))
+    return found or None
+
+
+def region_of(name: str, i: str, j: str, dirs: str, progress: Telling) -> Region:
+    """The region in the directions of a file."""
+    directions, region = directions_of(dirs), Region()
+    alone = not (i + j).count(",") and "sway" not in (i, j)
+    if directions is None:
+        if alone:
+            program.answer("yield", name, i, j, dirs)
+        raise Refused(f"{dirs}: each line must be `dir M N` with whole numbers, not both 0, and its line feed")
+    taken = [one for one in directions if max(abs(one[0]), abs(one[1])) <= YIELD][:LINES] if alone else []
+    wide = yielded(region, (name, i, j), taken) if taken else {}
+    rest = {**{one: "" for one in directions if one not in taken}, **wide}
+    if rest:
+        pair = pair_of(name, i, j)
+        for direction, reason in rest.items():
+            progress(f"the direction {direction[0]} {direction[1]}")
+            settled(region, pair, direction, reason)
+        order = {direction: number for number, direction in enumerate(directions)}
+        region.points = dict(sorted(region.points.items(), key=lambda item: order[item[0]]))
+        region.unlimited.sort(key=lambda direction: order[direction])
+    return region
+
+
+def yielded(region: Region, words: tuple[str, str, str], directions: Sequence[Direction]) -> dict[Direction, str]:
+    """What the program's `yield` says; what is given are the directions that it refuses, each with the reason."""
+    wide: dict[Direction, str] = {}
+    left = list(dict.fromkeys(directions))
+    while left:
+        done = asked(words, left)
+        if done.status == WIDE and done.error.startswith("wide dir "):
+            _, _, number, *reason = done.error.split()
+            wide[left.pop(int(number) - 1)] = " ".join(["wide", *reason])
+        elif done.status:
+            raise Ended(done)
+        else:
+            listed(region, done.output.splitlines())
+            break
+    return wide
+
+
+def asked(words: tuple[str, str, str], directions: Iterable[Direction]) -> Answer:
+    with tempfile.TemporaryDirectory() as folder:
+        name = Path(folder, "directions")
+        models.put(name, "".join(f"dir {m} {n}\n" for m, n in directions))
+        return program.run("yield", *words, name)
+
+
+def listed(region: Region, lines: Iterable[str]) -> None:
+    """Takes in an answer of `yield`."""
+    for line in lines:
+        head, *items = line.split()
+        if head == "dir":
+            direction = int(items[0]), int(items[1])
+            if items[2] == "unlimited":
+                region.unlimited.append(direction)
+            else:
+                region.points[direction] = Fraction(items[3]), Fraction(items[4])
+        elif head == "half":
+            region.bounded((int(items[0]), int(items[1]), int(items[2])))
+
+
+def settled(region: Region, pair: Pair, direction: Direction, reason: str) -> None:
+    """Asks about a direction by a model of its own. `reason` says why the program's `yield` refuses it, if it does."""
+    try:
+        with tempfile.TemporaryDirectory() as folder:
+            name = str(Path(folder, "model.toml"))
+            models.write(name, pair.directed(direction))
+            found = Case(name, str(Path(folder, "answer.cert")), voice=Silent()).settled_load()
+    except Refused as fault:
+        region.refused[direction] = reason or str(fault)
+        return
+    if isinstance(found, Collapses):
+        raise Ended(Answer(1, "collapses\n", ""))
+    if isinstance(found, Unlimited):
+        region.unlimited.append(direction)
+        return
+    carried = results.lower(found)
+    if carried is None:
+        region.refused[direction] = reason or "no share that is carried was found"
+    else:
+        region.points[direction] = direction[0] * carried, direction[1] * carried
+    if isinstance(found, (Greatest, Shares)) and found.motion is not None:
+        region.bounded(pair.half(found.motion))

@@ -1,0 +1,54 @@
+"""Between which factors a structure carries its live loads: both ends, each with a certificate that `check` accepts.
+
+Nothing here is proved.
+"""
+from masonry import model as models
+from masonry.console import Refused
+from masonry.model import Model
+from masonry.numbers import ratio
+from masonry.questions.case import Case
+from masonry.questions.results import Collapses, Greatest, Loaded, Unlimited, is_whole, lower
+from masonry.units import Scale, scale_of
+
+
+def both(case: Case, other: Case, between: str) -> tuple[Loaded, Loaded | None]:
+    """What the model of a case carries, and the reversed one after it, whose model is written to the other's file."""
+    greatest = case.settled_load()
+    if isinstance(greatest, Collapses):
+        return greatest, None
+    put(other.name, case.model.turned(), scale_of(models.text_of(case.name)))
+    if between:
+        case.voice.say(between)
+    return greatest, other.settled_load()
+
+
+def put(name: str, model: Model, scale: Scale) -> None:
+    """Writes a model whose first line says by what its forces are multiplied, if they are."""
+    models.put(name, ("" if scale == Scale() else scale.line()) + models.printed(model))
+
+
+def reversed_case(case: Case) -> Case:
+    """The case of the reversed model, in files of their own."""
+    stem = f"{case.stem}-reversed"
+    return Case(stem + ".toml", stem + ".cert", case.progress, case.voice, case.part)
+
+
+def ranged(case: Case) -> bool:
+    """Both sides in turn, and at last, in factors of the model itself, from where to where is carried. Says whether
+    nothing is missing."""
+    greatest, least = both(case, reversed_case(case), "reversed")
+    if least is None:
+        return True
+    if isinstance(least, Collapses):
+        raise Refused("the reversed model collapses, and the model doesn't")
+    ends = [end_of(least, -1), end_of(greatest, 1)]
+    exact = all(isinstance(one, (Greatest, Unlimited)) for one in (greatest, least))
+    if None not in ends:
+        case.voice.say("range {} {}".format(*ends) if exact else "carried from {} to {}".format(*ends))
+    return is_whole(greatest) and is_whole(least)
+
+
+def end_of(found: Loaded, sign: int) -> str | None:
+    """The end of a range, as a factor of the model itself; None where it is missing."""
+    factor = lower(found)
+    return "unlimited" if isinstance(found, Unlimited) else None if factor is None else ratio(sign * factor)
