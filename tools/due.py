@@ -4,7 +4,6 @@ Nothing here is proved. As long as nothing has changed, only times are read, in 
 `pungiroe` says what stands in the program's stamp and in the list of its sources.
 """
 import os
-import subprocess
 from collections.abc import Iterator
 from enum import Enum
 from hashlib import sha256
@@ -16,7 +15,7 @@ PROGRAM = "crates/pungiroe/out/pungiroe"
 class Why(Enum):
     """Why the program is to be built, in words."""
     MISSING = "isn't built"
-    OLDER = "is older than its sources"
+    OTHER = "isn't made from the sources that are there"
 
 
 def why(top: Path) -> Why | None:
@@ -27,7 +26,7 @@ def why(top: Path) -> Why | None:
         current = unchanged(top) or made_of_sources(top)
     except OSError:  # a source that can't be read: the build says so
         current = False
-    return None if current else Why.OLDER
+    return None if current else Why.OTHER
 
 
 def unchanged(top: Path) -> bool:
@@ -42,22 +41,12 @@ def unchanged(top: Path) -> bool:
 
 
 def made_of_sources(top: Path) -> bool:
-    """Whether the program is made of the sources that are there: by their sum, if the stamp names the program, and else
-    by their times."""
-    names = list(sources(top))
+    """Whether the program is made of the sources that are there: its sum and theirs are those of the stamp."""
     try:
-        name, sum_ = (top / f"{PROGRAM}.stamp").read_text().splitlines()
+        made, made_from = (top / f"{PROGRAM}.stamp").read_text().splitlines()
     except (OSError, ValueError):
-        name = sum_ = ""
-    if name == named(top):
-        return sum_ == sum_of(top, names)
-    made = (top / PROGRAM).stat().st_mtime_ns
-    return all((top / source).stat().st_mtime_ns <= made for source in names)
-
-
-def named(top: Path) -> str:
-    """What names the program: its size, and when it was written."""
-    return subprocess.run(["stat", "-c", "%s %y", top / PROGRAM], capture_output=True, text=True).stdout.strip()
+        return False
+    return made == told_sum((top / PROGRAM).read_bytes()) and made_from == sum_of(top, list(sources(top)))
 
 
 def sources(top: Path) -> Iterator[str]:
@@ -69,7 +58,12 @@ def sources(top: Path) -> Iterator[str]:
         yield from (str(within / name) for name in names if name.endswith((".rt", ".antt")) or name == "crates.txt")
 
 
+def told_sum(content: bytes) -> str:
+    """A sum as sha256sum tells it of its input."""
+    return f"{sha256(content).hexdigest()}  -"
+
+
 def sum_of(top: Path, names: list[str]) -> str:
     """The sum of all sources, as the stamp has it."""
     lines = [f"{sha256((top / name).read_bytes()).hexdigest()}  {name}\n" for name in sorted(names)]
-    return f"{sha256(''.join(lines).encode()).hexdigest()}  -"
+    return told_sum("".join(lines).encode())
