@@ -33,7 +33,8 @@ def why_due() -> str:
     says so, without building."""
     if Path(PROGRAM) != SCRIPT:
         return ""
-    return subprocess.run([PROGRAM], env={**os.environ, ASKS: "why"}, capture_output=True, text=True).stdout.strip()
+    words = {name: value for name, value in os.environ.items() if name != "PUNGIROE"}
+    return subprocess.run([PROGRAM], env={**words, ASKS: "why"}, capture_output=True, text=True).stdout.strip()
 
 
 def built() -> bool:

@@ -7,7 +7,6 @@ No prover is run.
 """
 import os
 import shutil
-import time
 import unittest
 from collections.abc import Callable
 from contextlib import redirect_stderr
@@ -192,7 +191,7 @@ class Builds(unittest.TestCase):
         self.assertFalse(well)
         self.assertIn("a source has changed in the meantime", said)
         self.assertFalse(self.folder.clone().is_made("low"))
-        self.assertLess(os.stat(self.folder.clone().program()).st_mtime, time.time() - 10**6)
+        self.assertFalse(os.path.exists(self.folder.clone().program()))
         self.assertEqual(self.folder.proved(), ["low", "middle", PROGRAM, "link"])
 
     def test_words_of_the_prover(self) -> None:

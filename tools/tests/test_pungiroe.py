@@ -63,10 +63,12 @@ class Clone:
         path.parent.mkdir(parents=True, exist_ok=True)
         path.write_text(text)
 
-    def call(self, *words: str, cwd: Path | None = None, script: str | None = None) -> tuple[int, str]:
-        """The status, and what is written to standard output."""
+    def call(self, *words: str, cwd: Path | None = None, script: str | None = None,
+             named: str | None = None) -> tuple[int, str]:
+        """The status, and what is written to standard output. PUNGIROE names this program, or none."""
         path = f"{self.top}/bin:{os.environ['PATH']}"
-        env = {**os.environ, "PATH": path, "SUMS": f"{self.top}/sums"}
+        env = {name: value for name, value in os.environ.items() if name != "PUNGIROE"}
+        env.update(PATH=path, SUMS=f"{self.top}/sums", **({"PUNGIROE": named} if named else {}))
         ran = subprocess.run([script or str(self.top / "pungiroe"), *words], cwd=cwd or self.top, env=env, text=True,
                              stdout=subprocess.PIPE, stderr=subprocess.PIPE)
         return ran.returncode, ran.stdout.strip()
@@ -128,7 +130,7 @@ class Calls(unittest.TestCase):
 
     def test_why_the_program_is_built(self) -> None:
         (self.top / SOURCE).write_text("second")
-        self.assertEqual(self.why(), "is older than its sources")
+        self.assertEqual(self.why(), "isn't made from the sources that are there")
         (self.top / PROGRAM).unlink()
         self.assertEqual(self.why(), "isn't built")
 
@@ -197,23 +199,44 @@ class Calls(unittest.TestCase):
         self.then("third", 3)
         self.then("third", 3)
 
+    def another(self) -> None:
+        """The program is that of another build, of the same size."""
+        program = self.top / PROGRAM
+        program.write_text(program.read_text().replace("first", "other"))
+
     def test_the_program_is_made_by_another_build(self) -> None:
-        made = self.top / PROGRAM
-        made.write_text(made.read_text().replace("first", "another"))
-        self.then("another", 1)
+        self.another()
+        self.then("first", 2)
         (self.top / SOURCE).write_text("second")
-        self.then("second", 2)
+        self.then("second", 3)
 
     def test_the_program_is_made_by_another_build_and_is_older(self) -> None:
-        made = self.top / PROGRAM
-        made.write_text(made.read_text().replace("first", "another"))
-        os.utime(made, (1, 1))
+        self.another()
+        os.utime(self.top / PROGRAM, (1, 1))
         self.then("first", 2)
+
+    def test_an_older_program_is_put_back_after_a_source_has_changed(self) -> None:
+        older = (self.top / PROGRAM).read_text()
+        (self.top / SOURCE).write_text("second")
+        (self.top / PROGRAM).write_text(older)
+        self.then("second", 2)
+        (self.top / PROGRAM).write_text(older)
+        self.then("second", 3)
+
+    def test_the_bytes_of_the_program_change_and_its_size_and_time_stay(self) -> None:
+        was = (self.top / PROGRAM).stat()
+        self.another()
+        os.utime(self.top / PROGRAM, ns=(was.st_atime_ns, was.st_mtime_ns))
+        self.assertEqual((self.top / PROGRAM).stat().st_size, was.st_size)
+        self.then("first", 2)
+
+    def test_the_program_is_written_again_and_is_the_same(self) -> None:
+        self.replaced(PROGRAM, lambda path: path.write_bytes(path.read_bytes()), builds=1)
 
     def test_the_stamp_is_missing(self) -> None:
         (self.top / f"{PROGRAM}.stamp").unlink()
         (self.top / f"{PROGRAM}.sources").unlink()
-        self.then("first", 1)
+        self.then("first", 2)
 
     def test_the_stamp_is_missing_and_a_source_is_newer(self) -> None:
         (self.top / f"{PROGRAM}.stamp").unlink()
@@ -222,7 +245,20 @@ class Calls(unittest.TestCase):
     def test_the_stamp_is_torn(self) -> None:
         for name in (f"{PROGRAM}.stamp", f"{PROGRAM}.sources"):
             (self.top / name).write_text("")
-        self.then("first", 1)
+        self.then("first", 2)
+
+    def test_another_program_is_named(self) -> None:
+        named = self.top / "named"
+        named.write_text('#!/usr/bin/env bash\necho "named $*"\nexit 4\n')
+        named.chmod(0o755)
+        (self.top / SOURCE).write_text("second")
+        self.assertEqual(self.clone.call("a", "b", named=str(named)), (4, "named a b"))
+        # One that isn't there is no reason to start this one.
+        self.assertEqual(self.clone.call(named=str(self.top / "absent"))[1], "")
+        self.assertEqual(self.clone.lines("builds"), 1)
+
+    def test_the_script_itself_is_named(self) -> None:
+        self.assertEqual(self.clone.call(named=str(self.top / "pungiroe")), (3, f"first {self.top}"))
 
     def test_the_clone_is_copied_with_its_times_and_then_changed(self) -> None:
         copied = self.top / "copied"

@@ -128,6 +128,7 @@ fn reads_over(alloc: Global, step: usize, fails: u64) -> [Result<bool, ShelfErro
         step,
         fails,
         taken: 0,
+        failed: 0,
     };
     let mut shelf = RealShelf::over(files, alloc);
     [
@@ -171,6 +172,7 @@ fn put_over(alloc: Global, step: usize, fails: u64) -> (bool, bool, usize) {
         step,
         calls: 0,
         fails,
+        failed: 0,
     };
     let mut sink = RealSink::over(stream);
     let is_put = sink.put(b"stone").is_ok();

@@ -1,7 +1,7 @@
 //! The shelf over files that are opened and read by single calls.
 
 ghost use Rattle.std.specs.Prelude.{◌≡◌, ◌≢◌, ◌≤◌, ◌<◌, ◌+◌, ℕ, List, Err};
-ghost use Rattle.stack_outside.specs.Faults.{Rose, count_after, StaysCounted};
+ghost use Rattle.stack_outside.specs.Faults.{Rose, count_after, failed_after, StaysCounted};
 ghost use Rattle.stack_outside.specs.Shelves.{ReadGives, Asks, Records, TakesAtMost, has_failed};
 
 use crate::error::ShelfError;
@@ -54,6 +54,7 @@ fn read_on<F: RawFiles + Drop>(
     ensures holds { F.holds files.new ≡ F.holds files.old }
     ensures asked { F.asked files.new ≡ F.asked files.old }
     ensures taken { TakesAtMost (most + 1) (F.taken files.old) (F.taken files.new) }
+    ensures failed { F.failed files.new ≡ failed_after (has_failed result) (F.failed files.old) }
     ensures sound { F.File.never_fails file.old → result ≢ Err ShelfError.Failed }
     ensures lasts { (other : List ℕ) → F.never_fails files.old other → F.never_fails files.new other }
 {
@@ -82,6 +83,7 @@ fn take<F: RawFiles + Drop>(
     ensures holds { F.holds files.new ≡ F.holds files.old }
     ensures opens { Asks (F.asked files.old) (F.asked files.new) name.now }
     ensures taken { TakesAtMost (most + 1) (F.taken files.old) (F.taken files.new) }
+    ensures failed { F.failed files.new ≡ failed_after (has_failed result) (F.failed files.old) }
     ensures sound { F.never_fails files.old name.now → result ≢ Err ShelfError.Failed }
     ensures lasts { (other : List ℕ) → F.never_fails files.old other → F.never_fails files.new other }
 {
@@ -113,6 +115,9 @@ impl<F: RawFiles + Drop> Shelf for RealShelf<F> {
         ensures opens { Asks (F.asked self.old.files) (F.asked self.new.files) name.now }
         // and nothing is read past the byte that shows that it is too long.
         ensures taken { TakesAtMost (most + 1) (F.taken self.old.files) (F.taken self.new.files) }
+        // A call that fails is told as failed, and nothing else is: at most one call fails, and the read then says so.
+        ensures failed { let failed = failed_after (has_failed result) (F.failed self.old.files) in
+            F.failed self.new.files ≡ failed }
         // The read fails only where a call does.
         ensures sound { F.never_fails self.old.files name.now → result ≢ Err ShelfError.Failed }
         ensures lasts { (other : List ℕ) → F.never_fails self.old.files other → F.never_fails self.new.files other }

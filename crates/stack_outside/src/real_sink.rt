@@ -1,7 +1,7 @@
 //! The sink over a stream that is written by single calls.
 
 ghost use Rattle.std.specs.Prelude.{◌≡◌, ◌≤◌, None, IsOk, OnErr, is_err};
-ghost use Rattle.stack_outside.specs.Faults.{Rose, count_after, StaysCounted};
+ghost use Rattle.stack_outside.specs.Faults.{Rose, count_after, StaysCounted, TellsFailure};
 ghost use Rattle.stack_outside.specs.Sinks.{Puts};
 
 use crate::error::SinkFailed;
@@ -44,6 +44,8 @@ impl<S: RawStream + Drop> Sink for RealSink<S> {
         ensures bounded { StaysCounted self.old.faults self.new.faults }
         ensures cause { OnErr result (Rose self.old.faults self.new.faults) }
         ensures count { self.new.faults ≡ count_after (is_err result) self.old.faults }
+        // No call that fails is passed over: at most one does, and the put then says so.
+        ensures failed { TellsFailure (is_err result) (S.failed self.old.stream) (S.failed self.new.stream) }
         // The put fails only where a call does, or takes nothing of a piece that isn't empty.
         ensures sound { S.never_fails self.old.stream → IsOk result }
     {

@@ -27,6 +27,8 @@ pub enum EitherStream<O, E> {
 impl<O: RawStream, E: RawStream> RawStream for EitherStream<O, E> {
     ghost taken = { elim [ Output o ↦ O.taken o | Fault e ↦ E.taken e ] };
 
+    ghost failed = { elim [ Output o ↦ O.failed o | Fault e ↦ E.failed e ] };
+
     ghost never_fails = { elim [ Output o ↦ O.never_fails o | Fault e ↦ E.never_fails e ] };
 
     fn write_some(&mut self, piece: &[u8]) -> Result<usize, CallFailed> {

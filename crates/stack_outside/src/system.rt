@@ -52,6 +52,8 @@ impl<'a, R: Files> RawFiles for SystemFiles<'a, R> {
 
     ghost taken = { λ s. None };
 
+    ghost failed = { λ s. None };
+
     // Of no file is it known that no call fails.
     ghost never_fails = { λ s name. ⊥ };
 
@@ -78,6 +80,8 @@ impl<F: Read + Drop> RawFile for SystemFile<F> {
 
 impl<W: Write + Drop> RawStream for SystemStream<W> {
     ghost taken = { λ s. W.contents s.writer };
+
+    ghost failed = { λ s. None };
 
     ghost never_fails = { λ s. ⊥ };
 

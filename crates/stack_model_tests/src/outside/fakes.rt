@@ -5,13 +5,15 @@ ghost use Rattle.std.specs.Prelude.{◌≡◌, ◌<◌, Some, None};
 use stack_outside::{CallFailed, RawFile, RawFiles, RawStream};
 
 /// Each name holds these bytes. A read gives at most `step` of them, and the one with the number `fails`, counted from
-/// 1, fails, as one that a signal interrupts. `taken` counts the bytes that were read.
+/// 1, fails, as one that a signal interrupts. `taken` counts the bytes that were read, and
+/// `failed` the reads that failed.
 #[derive(Clone, Copy, Drop)]
 pub struct FakeFiles {
     pub bytes: &'static [u8],
     pub step: usize,
     pub fails: u64,
     pub taken: usize,
+    pub failed: u64,
     ghost gives: { 0 < step },
 }
 
@@ -34,6 +36,8 @@ impl RawFiles for FakeFiles {
 
     ghost taken = { λ s. Some s.taken };
 
+    ghost failed = { λ s. Some s.failed };
+
     ghost never_fails = { λ s name. s.fails ≡ 0 };
 
     fn open(&mut self, _name: &str) -> Result<FakeFile, CallFailed> {
@@ -48,6 +52,7 @@ impl RawFiles for FakeFiles {
     fn read_some(&mut self, file: &mut FakeFile, room: &mut [u8]) -> Result<usize, CallFailed> {
         file.calls = file.calls.saturating_add(1);
         if file.calls == file.fails {
+            self.failed = self.failed.saturating_add(1);
             return Err(CallFailed);
         }
         let n = file.left.len().min(room.len()).min(file.step);
@@ -65,17 +70,20 @@ impl RawFile for FakeFile {
 }
 
 /// It writes into a list of bytes. A write takes at most `step` of them, and the one with the number `fails`, counted
-/// from 1, fails.
+/// from 1, fails. `failed` counts the writes that failed.
 #[derive(Drop)]
 pub struct FakeStream<'a> {
     pub bytes: &'a mut Vec<u8>,
     pub step: usize,
     pub calls: u64,
     pub fails: u64,
+    pub failed: u64,
 }
 
 impl RawStream for FakeStream<'_> {
     ghost taken = { λ s. Some s.bytes.now.items };
+
+    ghost failed = { λ s. Some s.failed };
 
     ghost never_fails = { λ s. ⊥ };
 
@@ -83,6 +91,7 @@ impl RawStream for FakeStream<'_> {
         self.calls = self.calls.saturating_add(1);
         let n = piece.len().min(self.step);
         if self.calls == self.fails || self.bytes.extend_from_slice(&piece[..n]).is_err() {
+            self.failed = self.failed.saturating_add(1);
             return Err(CallFailed);
         }
         Ok(n)

@@ -12,6 +12,7 @@ invariant-loop-block g l =
     × (g.F.RawFiles.holds l.files ≡ g.F.RawFiles.holds old)
     × (g.F.RawFiles.asked l.files ≡ g.F.RawFiles.asked old)
     × TakesAtMost (vec_len l.bytes) (g.F.RawFiles.taken old) (g.F.RawFiles.taken l.files)
+    × (g.F.RawFiles.failed l.files ≡ g.F.RawFiles.failed old)
     × ((other : List ℕ) → g.F.RawFiles.never_fails old other → g.F.RawFiles.never_fails l.files other)
     × Consumes (g.F.File.RawFile.left file) (g.F.File.RawFile.left l.file) l.bytes.items
     × (g.F.File.RawFile.never_fails file → g.F.File.RawFile.never_fails l.file)

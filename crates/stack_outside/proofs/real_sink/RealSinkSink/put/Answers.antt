@@ -12,13 +12,13 @@ loop-done-preserved g c =
     let after = g.S.RawStream.taken c.write_some.new.self in
     let within : c.in-Ok.n ≤ length c.args.piece.now - c.loop-done.done = search rules in
     let taken : Appends first after (take (c.loop-done.done + c.in-Ok.n) c.args.piece.now) =
-    more_taken first before after c.args.piece.now c.loop-done.done c.in-Ok.n c.loop-done.invariant.3
+    more_taken first before after c.args.piece.now c.loop-done.done c.in-Ok.n c.loop-done.invariant.4
     within (c.in-Ok.ensures.takes) in
-    (search rules, search rules, search rules, taken)
+    (search rules, search rules, search rules, search rules, taken)
 
 pub returns-in_default-clause-sound : goal.returns-in_default-clause-sound
 returns-in_default-clause-sound g c sound =
-    let some = c.write_some.ensures.some (c.loop-done.invariant.2 sound) in
+    let some = c.write_some.ensures.some (c.loop-done.invariant.3 sound) in
     elim c.in_default.branch [
       | in_default-via-in-Ok+else-n-gt0 w ↦ search rules
       | in_default-via-in_default w ↦ search rules

@@ -8,6 +8,7 @@ invariant-loop-done g l =
     let old = l.initial.self in
     (l.done ≤ length l.piece)
     × (l.self.faults ≡ old.faults)
+    × (g.S.RawStream.failed l.self.stream ≡ g.S.RawStream.failed old.stream)
     × (g.S.RawStream.never_fails old.stream → g.S.RawStream.never_fails l.self.stream)
     × Appends (g.S.RawStream.taken old.stream) (g.S.RawStream.taken l.self.stream) (take l.done l.piece)
 
