@@ -32,8 +32,8 @@ fn constant_line(refusal: &Refusal) -> Option<&'static str>
     }
 }
 
-/// Puts the refusal's line on `err`, in one put, and gives the refusal: where memory for the line is wanting, that
-/// refusal.
+/// Puts the refusal's line on `err`, in one put, and gives the refusal; if there is no memory for the line,
+/// `Memory`.
 #[tactic(auto, using(stack_said::proofs::Returned::line_put))]
 fn say<E: Sink>(alloc: Global, refusal: Refusal, err: &mut E) -> Refusal
     ensures which { (result ≡ refusal) ⊎ (TakesMemory (refusal_view refusal) × (result ≡ Refusal.Memory)) }

@@ -31,7 +31,7 @@ abbrev pub IsInTheWay : Structure → (i j n : ℕ) → Type 0
 IsInTheWay s i j n = ((n ≡ i) × ((k : ℕ) → ¬ Names s i k))
     ⊎ ((n ≡ j) × (((k : ℕ) × Names s i k) × (((k : ℕ) → ¬ Names s j k) ⊎ (i ≡ j))))
 
--- what two numbers name: two loads, from 0, or the first number that is in the way
+-- what two numbers name: two loads, from 0, or the first number at fault
 abbrev pub Pairs : Structure → (i j : ℕ) → Result (ℕ × ℕ) NoPair → Type 0
 Pairs s i j (Ok r) = (i ≡ r.0 + 1) × ((j ≡ r.1 + 1) × ArePair s r.0 r.1)
 Pairs s i j (Err e) = IsInTheWay s i j e.load

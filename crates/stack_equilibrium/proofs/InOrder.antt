@@ -1,4 +1,4 @@
--- What two steps give where both pass.
+-- The result of two steps if both pass.
 use Rattle.std.proofs.Common.{◌≡◌, refl, Result, Ok, Err}
 use Rattle.stack_algebra.specs.Steps.{◌>>=◌}
 

@@ -10,7 +10,7 @@ use stack_contact::Bearing;
 use stack_polygon::Point;
 use stack_whole::Whole;
 
-/// What a bearing bears on its second body: `a` along the normal, `b` along the tangent.
+/// The force of a bearing on its second body: `a` along the normal, `b` along the tangent.
 #[derive(Clone, Copy, Debug, PartialEq, Eq)]
 pub struct Push {
     pub a: Whole,

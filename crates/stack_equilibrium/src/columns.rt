@@ -138,7 +138,7 @@ fn reaction(wrench: Wrench) -> Wrench
     }
 }
 
-/// What a wrench on the second body is to body `i`.
+/// The wrench on body `i`, given that on the second body.
 fn exerted(i: usize, z: &Bearing, wrench: Wrench) -> Wrench
     requires { IsEdgeWrench wrench }
     ensures value { result ≡ wrench_times (bearing_side i (scene_bearing_of z.now)) wrench }

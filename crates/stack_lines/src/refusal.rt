@@ -37,7 +37,7 @@ pub enum Input {
     Directions,
 }
 
-/// Of which of a form's judgements a number is too wide.
+/// Which judgement of the command met the number that is too wide.
 #[derive(Clone, Copy)]
 pub enum Within {
     /// Its only one, or its first.
@@ -98,7 +98,7 @@ pub enum Refusal {
     },
     /// There is no built-in model of this size.
     Size,
-    /// The certificate's file is no certificate: the least number of a line, from 1, up to which it begins none.
+    /// The certificate's file is no certificate: the first line, from 1, with which no certificate can begin.
     CertificateLine {
         number: usize,
     },

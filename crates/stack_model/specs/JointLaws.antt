@@ -1,4 +1,4 @@
--- What is so of the terms between two materials.
+-- Laws of the friction between two materials.
 use Rattle.std.specs.Prelude.{◌≡◌, ℕ, ◌<◌, true, List, length, Some}
 use Rattle.stack_model.specs.declared.types.Joint.{Joint}
 use Rattle.stack_model.specs.Structure.{joins, joint_at, joint_terms}

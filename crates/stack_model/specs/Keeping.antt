@@ -1,7 +1,7 @@
 -- The items of a list that are kept, and the numbers that they have among the kept ones.
 use Rattle.std.specs.Prelude.{◌≡◌, ℕ, zero, suc, ◌<◌, Bool, false, List, [], ◌∷◌, length, get_or, if◌then◌else◌}
 
--- what is kept of the later items is told by numbers one less
+-- the tail is kept by the flags, shifted by one
 abbrev pub later : (ℕ → Bool) → ℕ → Bool
 later keeps i = keeps (suc i)
 

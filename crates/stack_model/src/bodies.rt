@@ -144,25 +144,25 @@ impl Bodies {
     }
 }
 
-/// One more body, as block `index`.
+/// One more body, from the part of block `index`, with this material and these corners.
 #[tactic(auto, unfolding(crate::specs::Content::with_body))]
 fn keep(
     alloc: Global,
+    index: usize,
     names: &mut Names,
     kept: &mut Vec<KeptBody>,
-    index: usize,
-    name: &str,
+    raw: &RawBlock,
     material: Option<usize>,
-    fixed: bool,
     corners: Vec<Point>,
 ) -> Result<(), ModelError>
     requires count { is_count (length corners.items) ≡ true }
     requires range { are_in_range corners.items ≡ true }
     requires names { names.old ≡ body_names (map body_view kept.old.items) }
     ensures value { Gives (λ _. map body_view kept.new.items) result
-        (with_body index name.now material fixed corners.items (map body_view kept.old.items)) }
+        (with_body index (raw_block raw.now).name material raw.now.fixed corners.items (map body_view kept.old.items)) }
     ensures names { OnOk result (names.new ≡ body_names (map body_view kept.new.items)) }
 {
+    let name = raw.name.as_str();
     if !names.add(alloc, name)? {
         return Err(ModelError::SameName {
             spot: Spot::Block(index),
@@ -173,7 +173,7 @@ fn keep(
         index,
         name,
         material,
-        fixed,
+        raw.fixed,
         corners,
         kept.as_slice(),
     )?)?;
@@ -205,16 +205,7 @@ fn add(
     )?;
     let corners = corners_at(alloc, spot, raw.corners.as_slice())?;
     let material = materials.number(raw.material.as_str());
-    keep(
-        alloc,
-        names,
-        kept,
-        index,
-        raw.name.as_str(),
-        material,
-        raw.fixed,
-        corners,
-    )
+    keep(alloc, index, names, kept, raw, material, corners)
 }
 
 /// The bodies, or the first fault of their content.

@@ -1,11 +1,11 @@
-//! Why a text tells no order of building.
+//! Why a text isn't an order of building.
 
 ghost use Rattle.std.specs.Prelude.{◌≡◌};
 ghost use Rattle.stack_orders.specs.declared.errors.OrderError.TheVariants as order_error;
 
 use std::alloc::AllocFailed;
 
-/// Why a text tells no order of building.
+/// Why a text isn't an order of building.
 #[derive(Clone, Copy, Debug, PartialEq, Eq)]
 pub enum OrderError {
     /// The first line, counted from 1, that isn't ended by a line feed, that names no free block, or that names the

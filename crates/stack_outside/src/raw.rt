@@ -45,7 +45,7 @@ pub trait RawFiles {
         ensures sound { never_fails self.old name.now → IfOk result (λ file. Self.File.never_fails file) }
         ensures lasts { (other : List ℕ) → never_fails self.old other → never_fails self.new other };
 
-    /// Reads the file's next bytes into a front of the room, and tells how many: none only at the end, or without room.
+    /// Reads the file's next bytes to the front of `room`, and says how many: none only at the end, or without room.
     fn read_some(&mut self, file: &mut Self::File, room: &mut [u8]) -> Result<usize, CallFailed>
         ensures within { ReadsAtMost result room.new }
         ensures gives { ReadConsumes (Self.File.left file.old) (Self.File.left file.new) result room.new }

@@ -81,8 +81,8 @@ fn common_on(p: &Polygon, i: usize, q: &Polygon) -> Common
                     }
                 }
             } else if is_at_either(s.low, start, end) {
-                // A corner of q that is an end of the edge, and so a corner of both: no edge tells a tangent there,
-                // so it will be a touch.
+                // A corner of q that is an end of the edge, and so a corner of both: no edge determines a
+                // tangent there, so it will be a touch.
                 Common::Corner(s.low.at)
             } else {
                 // A corner of q alone, strictly within the edge: it bears along the edge.

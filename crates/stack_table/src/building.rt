@@ -126,7 +126,7 @@ fn number(p: &Problem, artificial: usize, i: usize, j: usize) -> i128
     turned(flipped, p.right[i])
 }
 
-/// The row that is due in a column from row `i` on: that which was due before, unless it lies before row `i`.
+/// The next row, from row `i` on, with an entry in the column: the one known before, unless it lies before row `i`.
 fn next_due(p: &Problem, artificial: usize, due: usize, i: usize, j: usize) -> usize
     requires problem { IsProblem p.now }
     requires artificial { artificial ≡ plain (shape_of_problem p.now) }

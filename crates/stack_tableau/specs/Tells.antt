@@ -1,4 +1,5 @@
--- What the answers of choices, phases and runs tell of the written run. `Unsettled` comes of no table that settles all.
+-- What the answers of choices, phases and runs say of the written run. `Unsettled` is never returned by a table that
+-- settles all.
 use Rattle.std.specs.Prelude.{◌≡◌, ◌≢◌, ℕ, ◌<◌, ℤ, pos, ⊤, Bool, false, Option, Some, None, Result, Ok, Err}
 use Rattle.stack_algebra.specs.Fraction.{Fraction}
 use Rattle.stack_table.specs.declared.types.PivotWide.{PivotWide}

@@ -24,7 +24,7 @@ pub struct LeavingRow<R> {
     pub ratio: R,
 }
 
-/// The choice of a turn where nothing is refused.
+/// The outcome of a turn's pricing and ratio test, if nothing is refused.
 pub enum Chosen {
     /// No column enters.
     Stays,

@@ -6,7 +6,7 @@
 //!     Ok(kind) => .., // the end of the written run, whose last table is left
 //!     Err(RunStop::TooWide(place)) => .., // its first number that is too wide
 //!     Err(RunStop::Spent) => .., // the written run is over its budget
-//!     Err(RunStop::Unsettled) => .., // this tells nothing; it comes of no table that settles all
+//!     Err(RunStop::Unsettled) => .., // says nothing; never returned by a table that never gives up
 //! }
 //! ```
 #![tactic(auto)]

@@ -22,7 +22,7 @@ pub trait Tableau {
     ghost use Rattle.stack_bland.specs.Found.{TellsFound};
     ghost use Rattle.stack_tableau.specs.Answers.{IsAnswered, IsSettled, TellsRatio, TellsPivoted};
 
-    /// What stands for the ratio of a row.
+    /// The representation of a row's ratio.
     type Ratio: Copy;
 
     // Its numbers of rows, of contact columns and of factor columns.

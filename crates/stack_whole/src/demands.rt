@@ -3,7 +3,7 @@
 ghost use Rattle.std.specs.Prelude.{◌≡◌};
 ghost use Rattle.stack_whole.specs.Demands.{unless as unless_of};
 
-/// A test that must hold, or else this fault. Takes no memory.
+/// `Ok` if the test holds, and otherwise this fault. Takes no memory.
 pub fn unless<E: Copy>(holds: bool, fault: E) -> Result<(), E>
     ensures { result ≡ unless_of holds fault }
 {

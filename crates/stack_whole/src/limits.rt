@@ -1,4 +1,4 @@
-//! The limits that more than one crate needs, as docs/scope.md has them.
+//! The limits that more than one crate needs. The page "Scope" lists all limits.
 
 /// A survey has at most this many bearings, and so a certificate at most this many parts.
 pub const MOST_BEARINGS: usize = 1_024;

@@ -15,7 +15,7 @@ pub struct Whole {
     pub value: i128,
 }
 
-/// The number, unless it is too wide, as the least number of 128 bits is.
+/// The number, unless it is too wide: -2^127, the least number of 128 bits, is too.
 fn keep(number: Option<i128>) -> Result<Whole, Wide>
     ensures { result ≡ made_or_wide number }
 {
