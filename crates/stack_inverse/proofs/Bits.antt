@@ -1,12 +1,13 @@
 -- Marks in words, a bit each.
 use Rattle.std.proofs.Common.{◌≡◌, ◌≢◌, refl, sym, ap, ◌∙◌, ℕ, ◌+◌, ◌-◌, ◌*◌, ◌/◌, ◌%◌, ◌^◌, ◌<◌, ◌≤◌, max, List}
-use Rattle.std.proofs.Common.{length, eqb, false, get_or, set, get_or-set_same, get_or-set_other, inl, inr, arith, w64}
+use Rattle.std.proofs.Common.{length, get_or, set, get_or-set_same, get_or-set_other, inl, inr, arith, w64}
+use Rattle.std.proofs.Common.{shr-shr}
 use Rattle.std.specs.Prelude.{bit_and, bit_or}
 use Rattle.std.specs.Int.{bit_at, bit_not}
-use Rattle.std.proofs.lemmas.Bool.{cases_lt, eqb-false}
+use Rattle.std.proofs.lemmas.Bool.{cases_lt}
 use Rattle.std.proofs.lemmas.List.{get_or_past, get_or_read_under}
-use Rattle.std.proofs.lemmas.Nat.Bits.{bit_at_or, bit_at_ones, bit_at-lt, shr_and_one, bit_at_set_same}
-use Rattle.std.proofs.lemmas.Nat.Bits.{bit_at_set_other, bit_at_clear_other}
+use Rattle.std.proofs.lemmas.Nat.Bits.{bit_at_or, bit_at_ones, bit_at_set_same}
+use Rattle.std.proofs.lemmas.Nat.Bits.{bit_at_set_other, bit_at_clear_other, bit_at_above}
 use Rattle.stack_rational.proofs.Common.{ℕ_discrete}
 use Rattle.stack_inverse.specs.Marks.{mark_in}
 
@@ -27,16 +28,6 @@ joined new old other n a b c each j =
 pub filled : (words : List ℕ) (j : ℕ) → get_or words (j / 64) 0 ≡ 2 ^ 64 - 1 → mark_in words j ≡ 1
 unfolding mark_in
 filled words j e = ap (λ x. bit_at x (j % 64)) e ∙ bit_at_ones 64 (j % 64) (omega arith)
-
--- the test of a bit
-pub unmarked : (words : List ℕ) (j : ℕ) →
-    eqb (bit_and (get_or words (j / 64) 0 / 2 ^ (j % 64)) 1) 1 ≡ false → mark_in words j ≡ 0
-unfolding mark_in
-unmarked words j e =
-    let bit = shr_and_one (get_or words (j / 64) 0) (j % 64) in
-    let off = eqb-false (bit_and (get_or words (j / 64) 0 / 2 ^ (j % 64)) 1) 1 e in
-    let small = bit_at-lt (get_or words (j / 64) 0) (j % 64) in
-    omega (arith, bit, off, small)
 
 module _ (words : List ℕ) (j : ℕ) (lt : j / 64 < length words) (word : ℕ) (is : word ≡ get_or words (j / 64) word) where
   -- a word is written, of which all bits but one stay
@@ -80,3 +71,27 @@ none_more words from w n few before none j f l = elim (cases_lt j (w * 64)) [
       let e : j / 64 ≡ w = omega (arith, few, l, p) in
       ap (λ k. bit_at (get_or words k 0) (j % 64)) e ∙ none (j % 64) (omega (arith, few, l, p))
 ]
+
+-- a bit that is on, from another one on, stands within its word
+pub within_word : (word f i : ℕ) → word < 2 ^ 64 → bit_at (word / 2 ^ f) i ≡ 1 → f + i < 64
+within_word word f i lt on = elim (cases_lt (f + i) 64) [
+  | inl l ↦ l
+  | inr p ↦
+      let same : bit_at (word / 2 ^ f) i ≡ bit_at word (f + i) = ap (λ x. x % 2) (shr-shr word f i) in
+      let off : 1 ≡ 0 = sym on ∙ same ∙ bit_at_above word 64 (f + i) lt p in
+      absurd (omega (arith, off))
+]
+
+-- some bits of a word from one on, none of which is 1
+pub none_from : (words : List ℕ) (from n : ℕ) → from % 64 + n ≤ 64 →
+    ((i : ℕ) → i < n → bit_at (get_or words (from / 64) 0 / 2 ^ (from % 64)) i ≡ 0) → (j : ℕ) → from ≤ j →
+    j < from + n → mark_in words j ≡ 0
+unfolding mark_in
+none_from words from n few none j f l =
+    let e : j / 64 ≡ from / 64 = omega (arith, few, f, l) in
+    let r : j % 64 ≡ from % 64 + (j - from) = omega (arith, few, f, l) in
+    let same : bit_at (get_or words (from / 64) 0 / 2 ^ (from % 64)) (j - from)
+    ≡ bit_at (get_or words (from / 64) 0) (from % 64 + (j - from)) =
+    ap (λ x. x % 2) (shr-shr (get_or words (from / 64) 0) (from % 64) (j - from)) in
+    ap (λ k. bit_at (get_or words k 0) (j % 64)) e ∙ ap (λ k. bit_at (get_or words (from / 64) 0) k) r
+    ∙ sym same ∙ none (j - from) (omega (arith, f, l))

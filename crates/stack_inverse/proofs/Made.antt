@@ -11,11 +11,11 @@ use Rattle.stack_inverse.specs.Columns.{rises, cells_at, number_with, revised_ow
 use Rattle.stack_rows.proofs.Items.{at-index}
 use Rattle.stack_inverse.proofs.Entered.{rises_of, over_entries}
 
--- what follows from three clauses
-pub all_three : {X : Type 0} (r : Option X) {P Q R S : Type 0} → OnSome r P → OnSome r Q → OnSome r R →
-    (P → Q → R → S) → OnSome r S
-all_three None p q r f = tt
-all_three (Some x) p q r f = f p q r
+-- what follows from four clauses
+pub all_four : {X : Type 0} (r : Option X) {P Q R S T : Type 0} → OnSome r P → OnSome r Q → OnSome r R → OnSome r S →
+    (P → Q → R → S → T) → OnSome r T
+all_four None p q r s f = tt
+all_four (Some x) p q r s f = f p q r s
 
 -- one cell more
 pub one_more : (f : Cell → ℤ) (cells : List Cell) (k : ℕ) (d : Cell) (sum next total : ℤ) → k < length cells →

@@ -6,7 +6,7 @@ use Rattle.stack_rational.proofs.Common.{ℕ_discrete, get_or-map}
 use Rattle.stack_rows.proofs.Items.{at-set_same, at-set_other}
 use Rattle.stack_inverse.specs.declared.columns.Cell.{Cell}
 use Rattle.stack_inverse.specs.declared.marks.Marks.{Marks}
-use Rattle.stack_inverse.specs.Marks.{list_at, IsWide}
+use Rattle.stack_inverse.specs.Marks.{list_at, HaveWords}
 
 -- the words of a list
 abbrev words_of : Marks → List ℕ
@@ -43,6 +43,6 @@ module _ (lists : List Marks) (r : ℕ) (d new : Marks) {now : List Marks} (lt :
       after = set lists r new
 
   -- all are as long as before
-  pub wide_put : (w : ℕ) → IsWide lists w → IsWide now w
+  pub wide_put : (w : ℕ) → HaveWords lists w → HaveWords now w
   wide_put w h k l = list_put (λ _ m. length m ≡ w) k (λ _. h k (omega (arith, l, ap length put, length-set lists r)))
       (long ∙ ap length (list_lent lists r d lt) ∙ h r lt)

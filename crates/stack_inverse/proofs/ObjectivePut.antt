@@ -9,12 +9,12 @@ use Rattle.stack_inverse.specs.declared.columns.FirstColumn.{FirstColumn}
 use Rattle.stack_inverse.specs.declared.row.TableRow.{TableRow}
 use Rattle.stack_inverse.specs.declared.revised_table.RevisedTable.{RevisedTable}
 use Rattle.stack_rows.specs.RowForm.{number_at}
-use Rattle.stack_inverse.specs.RowBlock.{AreMarked}
+use Rattle.stack_inverse.specs.RowBlock.{AreFitting}
 use Rattle.stack_inverse.specs.Columns.{combined, by_place, number, first_at, revised_own, RowSeen, IsPut, cell_with}
 use Rattle.stack_inverse.specs.Columns.{revised_number, revised_cell, IsFactorRow, HaveWidths}
 use Rattle.stack_inverse.specs.RowsSeen.{seen_at}
 use Rattle.stack_inverse.specs.Seen.{shape_of_revised, table_of_revised}
-use Rattle.stack_inverse.proofs.PutRow.{written, written_long, widths_put, marked_put}
+use Rattle.stack_inverse.proofs.PutRow.{written, written_long, widths_put, fitting_put}
 use Rattle.stack_inverse.proofs.FirstRows.{own_row, factor_cell}
 use Rattle.stack_inverse.proofs.Steps.{over_zero}
 use Rattle.stack_table.specs.Table.{Tabled, factor_row, with_objective}
@@ -105,18 +105,18 @@ table_with t own rows = record {
   basic = (table_of_revised t).basic;
 }
 
--- rows in place of those of a table: they have its height and widths, those that are marked fit, and in their table
+-- rows in place of those of a table: they have its height and widths, those that are known to fit do, and in their table
 -- only the objective row is another, that of these own cells and numbers
 pub record HaveObjective (t : RevisedTable) (own row : List ℤ) (d : ℤ) (rows : List TableRow) : Type 0 where
   pub height : length rows ≡ suc t.given.first.rows
   pub widths : HaveWidths t.given.first.rows (seen_at rows)
-  pub marked : AreMarked widest (table_with t own rows).cell (seen_at rows)
+  pub fitting : AreFitting widest (table_with t own rows).cell (seen_at rows)
   pub same : (k : ℕ) → k < t.given.first.rows → seen_at rows k ≡ seen_at t.rows.items k
   pub table : (f : ℕ → Fraction) →
       ((j : ℕ) → own_cell t.given.first.rows t.given.first.columns.items own row d j ≡ f j) →
       table_with t own rows ≡ with_objective ordered_fractions (shape_of_revised t) (table_of_revised t) f
 
--- so are its rows once that objective row is put, not marked
+-- so are its rows once that objective row is put, not known to fit
 pub objective_written : (t : RevisedTable) (own : List ℤ) {row : List ℤ} {d : ℤ} {lent : List TableRow}
     (new : List TableRow) → lent ≡ t.rows.items → length new ≡ length lent → length row ≡ suc t.given.first.rows →
     IsPut (seen_at lent) t.given.first.rows row d false (seen_at new) →
@@ -133,8 +133,8 @@ objective_written t own {row = row} {d = d} new kept tall long put =
     record {
       height = written_long t.rows new kept tall ∙ t.height;
       widths = widths_put m is long t.widths;
-      marked = marked_put widest (revised_cell m columns old s) (revised_cell m columns own after) is
-          (others_stay m columns old own s after row d is) t.marked;
+      fitting = fitting_put widest (revised_cell m columns old s) (revised_cell m columns own after) is
+          (others_stay m columns old own s after row d is) t.fitting;
       same = λ k l. is.other k (λ e. omega (arith, l, e));
       table = λ f h z. record {
         cell = λ i j. objective_put m columns old own s after row d is f h i j z;

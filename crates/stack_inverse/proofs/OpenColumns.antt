@@ -51,11 +51,11 @@ module _ (m : ℕ) (columns : List FirstColumn) (own : List ℤ) (s t : ℕ → 
       start = times (t r).under ∙ ap (λ z. (t r).under *ℤ z) (sym bare)
 
   -- the objective row isn't negative in a column without a mark
-  pub columns_kept : (places uses new_places : List Marks) (marks new_marks : List ℕ) (entered : List ℤ) →
-      AreMarkedOn places uses marks (t r).numbers entered new_places new_marks → length uses ≡ m →
+  pub columns_kept : (places uses new_places : List Marks) (marks new_marks touched : List ℕ) →
+      AreMarkedOn places uses marks (t r).numbers touched new_places new_marks → length uses ≡ m →
       AreUses uses columns → AreClean (revised_number m columns own s m) (length columns) marks →
       AreClean (revised_number m columns own t m) (length columns) new_marks
-  columns_kept places uses new_places marks new_marks entered k few used was j lt z =
+  columns_kept places uses new_places marks new_marks touched k few used was j lt z =
       ap is_negative_sign (same_sign (revised_number m columns own t m j) (t m).under
       (revised_number m columns own s m j) (s m).under (pt m) (ps m) stays)
       ∙ was j lt (k.marks_kept j z)

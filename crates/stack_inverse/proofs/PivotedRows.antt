@@ -6,7 +6,7 @@ use Rattle.stack_table.specs.Spots.{cells_spot}
 use Rattle.stack_inverse.specs.declared.columns.FirstColumn.{FirstColumn}
 use Rattle.stack_table.specs.declared.types.TurnRefusal.{TurnRefusal}
 use Rattle.stack_inverse.specs.CellSteps.{TellsSpot, PivotIsRefused}
-use Rattle.stack_inverse.specs.RowBlock.{IsDividedRow, IsReducedRow, IsPivotedCells, AreMarked}
+use Rattle.stack_inverse.specs.RowBlock.{IsDividedRow, IsReducedRow, IsPivotedCells, AreFitting}
 use Rattle.stack_inverse.specs.Columns.{RowSeen, no_row, IsPut, revised_own, cell_with, revised_cell, row_cell}
 use Rattle.stack_inverse.proofs.Division.{cell_outside_zero, cell_outside_fits, put_own}
 use Rattle.stack_inverse.proofs.PivotLoop.{pivoted_cells, tells_refused}
@@ -48,7 +48,7 @@ module _ (m : ℕ) (columns : List FirstColumn) (own : List ℤ) (s : ℕ → Ro
 
     -- and all cells fit
     pub pivoted : IsPivotedCells widest (suc m) (suc (length columns + m)) (revised_cell m columns own s) r c
-        (revised_cell m columns own t) × AreMarked widest (revised_cell m columns own t) t
+        (revised_cell m columns own t) × AreFitting widest (revised_cell m columns own t) t
     pivoted = (
       pivoted_cells (suc m) (suc (length columns + m)) (revised_cell m columns own s)
           (row_cell m columns numbers under) r c divided.cell divided.none outside outside_fits

@@ -1,5 +1,5 @@
 -- The marks of places after a pivot.
-use Rattle.std.proofs.Common.{◌≡◌, ◌≢◌, refl, sym, ap, subst, ◌∙◌, ℕ, ◌+◌, ◌<◌, Bool, true, false, cond, eqb}
+use Rattle.std.proofs.Common.{◌≡◌, ◌≢◌, refl, sym, ap, subst, ◌∙◌, ℕ, ◌+◌, ◌<◌, ◌≤◌, Bool, true, false, cond, eqb}
 use Rattle.std.proofs.Common.{List, length, ◌/◌, arith, ℤ, pos, Result, Ok, Err, OnOk, is_ok, ◌⊎◌, inl, inr}
 use Rattle.std.proofs.lemmas.Bool.Decides.{nat_tests}
 use lib.IntN.{ℤ_discrete}
@@ -9,7 +9,7 @@ use Rattle.stack_inverse.specs.declared.marks.Marks.{Marks}
 use Rattle.stack_rows.specs.RowForm.{number_at}
 use Rattle.stack_inverse.specs.Columns.{RowSeen, AreEntered, revised_own, revised_cell, revised_number}
 use Rattle.stack_inverse.specs.FirstTable.{AreFilled, load_at}
-use Rattle.stack_inverse.specs.Marks.{mark_at, ArePlaces, AreMarkedOn, AreFull, AreClean}
+use Rattle.stack_inverse.specs.Marks.{mark_in, mark_at, ArePlaces, AreMarkedOn, AreFull, AreClean}
 use Rattle.stack_inverse.proofs.KeptNumbers.{artificial_is}
 use Rattle.stack_inverse.proofs.PivotedZeros.{zero_over, zero_number, row_zero, row_stays, column_stays}
 
@@ -34,10 +34,12 @@ module _ (m : ℕ) (columns : List FirstColumn) (own : List ℤ) (s t : ℕ → 
       ∙ zero_number (revised_number m columns own u i (length columns + q)) (u i).under (pu i) e
 
   -- a place without a mark has nothing
-  pub places_kept : (places uses new_places : List Marks) (marks new_marks : List ℕ) (entered : List ℤ) →
-      AreMarkedOn places uses marks (t r).numbers entered new_places new_marks → length places ≡ m →
-      AreEntered m columns own s c entered → ArePlaces places m s → ArePlaces new_places m t
-  places_kept places uses new_places marks new_marks entered k few e was i q li lq z =
+  pub places_kept : (places uses new_places : List Marks) (marks new_marks touched : List ℕ) (entered : List ℤ) →
+      AreMarkedOn places uses marks (t r).numbers touched new_places new_marks → length places ≡ m →
+      AreEntered m columns own s c entered →
+      ((i : ℕ) → i ≤ m → mark_in touched i ≡ 0 → number_at entered i ≡ pos 0) → ArePlaces places m s →
+      ArePlaces new_places m t
+  places_kept places uses new_places marks new_marks touched entered k few e told was i q li lq z =
       number_zero t pt i q lq (go (ℕ_discrete i r) (zero_or_not (number_at (t r).numbers q)))
     where
       j : ℕ
@@ -54,17 +56,17 @@ module _ (m : ℕ) (columns : List FirstColumn) (own : List ℤ) (s t : ℕ → 
           (cell_zero t pt r q lq p) ∙ before
       go (no n) (no d) = row_stays (revised_cell m columns own s) (revised_cell m columns own t) r c is i j n
           (zero_over (revised_number m columns own s i c) (s i).under (ps i)
-          (sym (e i (omega (arith, li))) ∙ k.joined q i (omega (arith, lq, few)) d z)) ∙ before
+          (sym (e i (omega (arith, li))) ∙ told i (omega (arith, li)) (k.joined q i (omega (arith, lq, few)) d z)))
+          ∙ before
 
 -- the marks after a pivot, told of equal lists
-pub marked_on_same : {p p' u u' new_places : List Marks} {o new_marks : List ℕ} {w w' e e' : List ℤ} →
-    p ≡ p' → u ≡ u' → w ≡ w' → e ≡ e' → AreMarkedOn p u o w e new_places new_marks →
-    AreMarkedOn p' u' o w' e' new_places new_marks
-marked_on_same {p} {p'} {u} {u'} {new_places} {o} {new_marks} {w} {w'} {e} {e'} hp hu hw he h =
-    subst (λ x. AreMarkedOn x u' o w' e' new_places new_marks) hp
-    (subst (λ x. AreMarkedOn p x o w' e' new_places new_marks) hu
-    (subst (λ x. AreMarkedOn p u o x e' new_places new_marks) hw
-    (subst (λ x. AreMarkedOn p u o w x new_places new_marks) he h)))
+pub marked_on_same : {p p' u u' new_places : List Marks} {o e new_marks : List ℕ} {w w' : List ℤ} →
+    p ≡ p' → u ≡ u' → w ≡ w' → AreMarkedOn p u o w e new_places new_marks →
+    AreMarkedOn p' u' o w' e new_places new_marks
+marked_on_same {p} {p'} {u} {u'} {new_places} {o} {e} {new_marks} {w} {w'} hp hu hw h =
+    subst (λ x. AreMarkedOn x u' o w' e new_places new_marks) hp
+    (subst (λ x. AreMarkedOn p x o w' e new_places new_marks) hu
+    (subst (λ x. AreMarkedOn p u o x e new_places new_marks) hw h))
 
 -- where all is marked nothing is told
 pub full_places : (m w : ℕ) (places : List Marks) (marks : List ℕ) (t : ℕ → RowSeen) →
@@ -93,3 +95,8 @@ first_told m right s places f d i r li lr z = (f.rows i li).number r ∙ bare
 
     bare : cond (eqb r m) (load_at right i) (cond (eqb r i) (pos 1) (pos 0)) ≡ pos 0
     bare = grind (arith, nat_tests, off)
+
+-- a pivot that is done gives what is told of it
+pub ok_gives : {T E P : Type 0} (r : Result T E) (b : Bool) → b ≡ is_ok r → OnOk r P → b ≡ true → P
+ok_gives (Ok x) b e h t = h
+ok_gives (Err x) b e h t = let f : false ≡ true = sym e ∙ t in absurd cc

@@ -6,7 +6,7 @@ use Rattle.stack_rational.proofs.Common.{ℕ_discrete, ints, Fraction, ◌≺◌
 use Rattle.stack_rational.proofs.Common.{with_items_is}
 use Rattle.stack_rows.proofs.Items.{at-index, at-set_same, at-set_other, at-past}
 use Rattle.stack_inverse.specs.declared.row.TableRow.{TableRow}
-use Rattle.stack_inverse.specs.RowBlock.{AllNumbersFit, AreMarked}
+use Rattle.stack_inverse.specs.RowBlock.{AllNumbersFit, AreFitting}
 use Rattle.stack_inverse.specs.Columns.{RowSeen, no_row, HaveWidths, IsPut}
 use Rattle.stack_inverse.specs.RowsSeen.{seen_of, seen_at}
 
@@ -74,12 +74,12 @@ module _ (rows : List TableRow) (i : ℕ) (new : TableRow) (lt : i < length rows
       seen_at (set rows i new) k ≡ first k
   left_set first h k l = other k (λ p. omega (arith, l, p)) ∙ h k (omega (arith, l))
 
-  -- where all rows that are marked fit, and it too if it is, they do
-  pub marked_set : (max : ℤ) (cell : ℕ → RowSeen → ℕ → Fraction) →
-      AreMarked max (λ k. cell k (seen_at rows k)) (seen_at rows) →
+  -- where all rows that are known to fit do, and it too if it is, they do
+  pub fitting_set : (max : ℤ) (cell : ℕ → RowSeen → ℕ → Fraction) →
+      AreFitting max (λ k. cell k (seen_at rows k)) (seen_at rows) →
       (new.fits ≡ true → AllNumbersFit max (cell i (seen_of new))) →
-      AreMarked max (λ k. cell k (seen_at (set rows i new) k)) (seen_at (set rows i new))
-  marked_set max cell h here k = elim (ℕ_discrete k i) [
+      AreFitting max (λ k. cell k (seen_at (set rows i new) k)) (seen_at (set rows i new))
+  fitting_set max cell h here k = elim (ℕ_discrete k i) [
     | yes p ↦ subst (λ n. (seen_at (set rows i new) n).fits ≡ true →
         AllNumbersFit max (cell n (seen_at (set rows i new) n))) (sym p)
         (subst (λ (s : RowSeen). s.fits ≡ true → AllNumbersFit max (cell i s)) (sym own) here)
@@ -105,19 +105,19 @@ widths_put {t = t} {i = i} m p e h k l = elim (ℕ_discrete k i) [
   | no n ↦ ap (λ (s : RowSeen). length s.numbers) (p.other k n) ∙ h k l
 ]
 
--- where it isn't marked, and no other is, none is
-pub unmarked_put : {s t : ℕ → RowSeen} {i : ℕ} {numbers : List ℤ} {under : ℤ} → IsPut s i numbers under false t →
+-- where it isn't known to fit, and no other is, none is
+pub unfit_put : {s t : ℕ → RowSeen} {i : ℕ} {numbers : List ℤ} {under : ℤ} → IsPut s i numbers under false t →
     ((k : ℕ) → (s k).fits ≡ false) → (k : ℕ) → (t k).fits ≡ false
-unmarked_put {t = t} {i = i} p h k = elim (ℕ_discrete k i) [
+unfit_put {t = t} {i = i} p h k = elim (ℕ_discrete k i) [
   | yes q ↦ ap (λ n. (t n).fits) q ∙ p.own_fits
   | no n ↦ ap (λ (r : RowSeen). r.fits) (p.other k n) ∙ h k
 ]
 
 -- and nothing is said of it
-pub marked_put : {s t : ℕ → RowSeen} {i : ℕ} {numbers : List ℤ} {under : ℤ} (max : ℤ) (old new : ℕ → ℕ → Fraction) →
-    IsPut s i numbers under false t → ((k j : ℕ) → k ≢ i → new k j ≡ old k j) → AreMarked max old s →
-    AreMarked max new t
-marked_put {t = t} {i = i} max old new p same h k e j = elim (ℕ_discrete k i) [
+pub fitting_put : {s t : ℕ → RowSeen} {i : ℕ} {numbers : List ℤ} {under : ℤ} (max : ℤ) (old new : ℕ → ℕ → Fraction) →
+    IsPut s i numbers under false t → ((k j : ℕ) → k ≢ i → new k j ≡ old k j) → AreFitting max old s →
+    AreFitting max new t
+fitting_put {t = t} {i = i} max old new p same h k e j = elim (ℕ_discrete k i) [
   | yes q ↦ let b : false ≡ true = sym p.own_fits ∙ sym (ap (λ n. (t n).fits) q) ∙ e in absurd cc
   | no n ↦ ap (fraction_fits max) (same k j n)
       ∙ h k (sym (ap (λ (s : RowSeen). s.fits) (p.other k n)) ∙ e) j

@@ -1,5 +1,5 @@
 -- A row step in which all is small, by a top of all numbers of the row and one of the pivot row's.
-use Rattle.std.proofs.Common.{refl, ℕ, ◌+◌, ◌-◌, ◌*◌, ◌^◌, ◌≤◌, subst, List, length, arith, ℤ, nat_abs, ◌*ℤ◌}
+use Rattle.std.proofs.Common.{refl, ℕ, ◌+◌, ◌-◌, ◌*◌, ◌^◌, ◌≤◌, subst, List, length, arith, ℤ, nat_abs}
 use Rattle.stack_rational.proofs.Common.{unsigned_abs-mul, widest}
 use Rattle.stack_rows.specs.RowForm.{number_at, AreSmall, AreSmallBelow}
 use Rattle.stack_rows.proofs.Casts.{lesser_small}
@@ -22,14 +22,12 @@ module _ (m : ℕ) (columns : List FirstColumn) (row pivot : List ℤ) (d e k t 
       small
 
   -- and all that it makes fits
-  pub small_fits : nat_abs d * nat_abs k ≤ 2 ^ 62 - 1 →
-      FitsByTop widest m row d column_top own_top k t p (d *ℤ k)
+  pub small_fits : nat_abs d * nat_abs k ≤ 2 ^ 62 - 1 → FitsByTop widest m row d column_top own_top k t p
   small_fits h = record {
     whole_top = top;
     is_whole_top = whole;
     fitting = record {
       fits = omega (arith, small.sum);
-      under = refl;
       small = omega (arith, unsigned_abs-mul d k, h);
     };
   }

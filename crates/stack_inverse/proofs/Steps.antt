@@ -77,8 +77,8 @@ module _ (m : ℕ) (columns : List FirstColumn) (o : ℕ → ℤ) (row : List �
         (row_number m columns pivot e j) e k t positive he hk cross
 
     -- and by tops of both rows its cells fit
-    pub row_by_tops : (column_top g p : ℕ) {r : ℤ} → AreFirst m (length columns) columns column_top →
-        ((j : ℕ) → unsigned_abs (o j) ≤ g) → (i width : ℕ) → FitsByTop widest m row d column_top g k t p r →
+    pub row_by_tops : (column_top g p : ℕ) → AreFirst m (length columns) columns column_top →
+        ((j : ℕ) → unsigned_abs (o j) ≤ g) → (i width : ℕ) → FitsByTop widest m row d column_top g k t p →
         AreWithin (row_number m columns pivot e) p →
         IsReducedRow widest width (cell_with m columns o row d) (row_cell m columns pivot e) i column
         (cell_with m columns o new after)
@@ -86,15 +86,12 @@ module _ (m : ℕ) (columns : List FirstColumn) (o : ℕ → ℤ) (row : List �
       own = taken_own;
       fits = λ j. ap (fraction_fits widest) (stepped_cell m columns o row pivot new d e k t after x positive hk j)
           ∙ step_fits widest (number_with m columns o row d) (row_number m columns pivot e) d e
-          (number_with m columns o row d column) k t b.whole_top p positive he hk cross within kp b.fitting.fits small
-          j;
+          (number_with m columns o row d column) k t b.whole_top p positive he hk cross within kp b.fitting.fits
+          b.fitting.small j;
       none = first_all-none width _ (λ j l. step_none widest (number_with m columns o row d)
           (row_number m columns pivot e) d e (number_with m columns o row d column) k t b.whole_top p positive he hk
-          cross within kp b.fitting.fits small i j);
+          cross within kp b.fitting.fits b.fitting.small i j);
     }
       where
         within : (j : ℕ) → unsigned_abs (number_with m columns o row d j) ≤ b.whole_top
         within = by_top m columns column_top first o row d g b.whole_top ho b.is_whole_top
-
-        small : unsigned_abs (d *ℤ k) ≤ unsigned_abs widest
-        small = subst (λ z. unsigned_abs z ≤ unsigned_abs widest) b.fitting.under b.fitting.small

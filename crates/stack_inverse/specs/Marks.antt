@@ -23,8 +23,8 @@ abbrev pub mark_at : List Marks → (r i : ℕ) → ℕ
 mark_at lists r i = mark_in (list_at lists r) i
 
 -- each list has w words
-abbrev pub IsWide : List Marks → (w : ℕ) → Type 0
-IsWide lists w = (r : ℕ) → r < length lists → length (list_at lists r) ≡ w
+abbrev pub HaveWords : List Marks → (w : ℕ) → Type 0
+HaveWords lists w = (r : ℕ) → r < length lists → length (list_at lists r) ≡ w
 
 -- each column is marked in the lists of its rows
 abbrev pub AreUses : List Marks → List FirstColumn → Type 0
@@ -44,12 +44,12 @@ AreClean f n words = (j : ℕ) → j < n → mark_in words j ≡ 0 → is_negati
 abbrev pub least_negative : (ℕ → ℤ) → ℕ → Option ℕ
 least_negative f among = least among (λ j. is_negative_sign (sign_of (f j)))
 
--- the marks after a pivot: the pivot's row is `row` now, and the numbers of its column were `entered`
-pub record AreMarkedOn (places uses : List Marks) (marks : List ℕ) (row entered : List ℤ)
+-- the marks after a pivot: the pivot's row is `row` now, and the rows in which its column had something were touched
+pub record AreMarkedOn (places uses : List Marks) (marks : List ℕ) (row : List ℤ) (touched : List ℕ)
     (new_places : List Marks) (new_marks : List ℕ) : Type 0 where
   pub places_kept : (r i : ℕ) → mark_at new_places r i ≡ 0 → mark_at places r i ≡ 0
   pub joined : (r i : ℕ) → r < length places → number_at row r ≢ pos 0 → mark_at new_places r i ≡ 0 →
-      number_at entered i ≡ pos 0
+      mark_in touched i ≡ 0
   pub marks_kept : (j : ℕ) → mark_in new_marks j ≡ 0 → mark_in marks j ≡ 0
   pub unused : (r j : ℕ) → r < length uses → number_at row r ≢ pos 0 → mark_in new_marks j ≡ 0 → mark_at uses r j ≡ 0
 

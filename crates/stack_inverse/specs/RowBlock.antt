@@ -23,17 +23,16 @@ pub record IsWholeTop (m : ℕ) (row : List ℤ) (d : ℤ) (column_top own_top b
 abbrev pub AllNumbersFit : ℤ → (ℕ → Fraction) → Type 0
 AllNumbersFit m cell = (j : ℕ) → fraction_fits m (cell j) ≡ true
 
--- in a row that is marked no cell is too wide for m
-abbrev pub AreMarked : ℤ → (ℕ → ℕ → Fraction) → (ℕ → RowSeen) → Type 0
-AreMarked m cell s = (i : ℕ) → (s i).fits ≡ true → AllNumbersFit m (cell i)
+-- in a row that is known to fit no cell is too wide for m
+abbrev pub AreFitting : ℤ → (ℕ → ℕ → Fraction) → (ℕ → RowSeen) → Type 0
+AreFitting m cell s = (i : ℕ) → (s i).fits ≡ true → AllNumbersFit m (cell i)
 
--- what a step of a row over d makes fits m, by a top of all its numbers and one of the pivot row's; r is its
--- denominator before it is reduced
-pub record FitsByTop (m : ℤ) (rows : ℕ) (row : List ℤ) (d : ℤ) (column_top own_top : ℕ) (k t : ℤ) (p : ℕ) (r : ℤ)
-    : Type 0 where
-  pub whole_top : ℕ
-  pub is_whole_top : IsWholeTop rows row d column_top own_top whole_top
-  pub fitting : StepFits m d k t whole_top p r
+-- what a step of a row over d makes fits m, by a top of all its numbers and one of the pivot row's
+pub record FitsByTop (m : ℤ) (rows : ℕ) (row : List ℤ) (d : ℤ) (column_top own_top : ℕ) (k t : ℤ) (p : ℕ) : Type 0
+  where
+    pub whole_top : ℕ
+    pub is_whole_top : IsWholeTop rows row d column_top own_top whole_top
+    pub fitting : StepFits m d k t whole_top p
 
 -- row i is reduced by the row g, its cells fit and nothing that is written is too wide
 pub record IsReducedRow (m : ℤ) (width : ℕ) (old g : ℕ → Fraction) (i column : ℕ) (new : ℕ → Fraction) : Type 0 where

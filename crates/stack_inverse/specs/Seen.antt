@@ -1,5 +1,5 @@
 -- What clauses see of the table of a run: its shape and its value.
-use Rattle.std.specs.Prelude.{ℕ, ◌≤◌, get_or, ℤ, unsigned_abs}
+use Rattle.std.specs.Prelude.{◌≡◌, ◌≢◌, ℕ, ◌≤◌, get_or, ℤ, pos, unsigned_abs}
 use Rattle.stack_rational.specs.Laws.{widest}
 use Rattle.stack_rows.specs.RowForm.{number_at}
 use Rattle.stack_algebra.specs.Fraction.{Fraction}
@@ -8,6 +8,7 @@ use Rattle.stack_table.specs.Block.{shape_of}
 use Rattle.stack_inverse.specs.declared.revised_table.RevisedTable.{RevisedTable}
 use Rattle.stack_inverse.specs.Columns.{revised_number, AreEntered}
 use Rattle.stack_inverse.specs.RowsSeen.{seen_at, cells_of_rows}
+use Rattle.stack_inverse.specs.Marks.{mark_in}
 
 -- the numbers of rows, of contact columns and of factor columns
 abbrev pub shape_of_revised : RevisedTable → Shape
@@ -22,13 +23,15 @@ abbrev pub number_in : RevisedTable → ℕ → ℕ → ℤ
 number_in t i j = revised_number t.given.first.rows t.given.first.columns.items
     t.given.own.items (seen_at t.rows.items) i j
 
--- the numbers of a column, row by row, are kept, and fit as the right sides do
+-- the numbers of a column, row by row, are kept, and fit as the right sides do; a row without a mark has 0 there
 pub record IsEntered (t : RevisedTable) (column : ℕ) : Type 0 where
   pub numbers : AreEntered t.given.first.rows t.given.first.columns.items t.given.own.items (seen_at t.rows.items)
       column t.entered.items
   pub fit : (i : ℕ) → i ≤ t.given.first.rows → unsigned_abs (number_at t.entered.items i) ≤ unsigned_abs widest
-  pub right_fits : (i : ℕ) → i ≤ t.given.first.rows →
+  pub right_fits : (i : ℕ) → i ≤ t.given.first.rows → number_at t.entered.items i ≢ pos 0 →
       unsigned_abs (number_at (seen_at t.rows.items i).numbers t.given.first.rows) ≤ unsigned_abs widest
+  pub touched : (i : ℕ) → i ≤ t.given.first.rows → mark_in t.touched.words.items i ≡ 0 →
+      number_at t.entered.items i ≡ pos 0
 
 -- the cells as exact fractions by row and column, and the basic column of each row
 abbrev pub table_of_revised : RevisedTable → Tabled Fraction

@@ -1,6 +1,6 @@
 //! Whether a row step fits, by tops: as one that is kept, or as one of its numbers.
 
-ghost use Rattle.std.specs.Prelude.{◌≡◌, suc, ◌≤◌, ◌*ℤ◌, length, unsigned_abs, OnSome, IfSome};
+ghost use Rattle.std.specs.Prelude.{◌≡◌, suc, ◌≤◌, true, length, unsigned_abs, OnSome, IfSome};
 ghost use Rattle.stack_rational.specs.Laws.{widest};
 ghost use Rattle.stack_rows.specs.RowForm.{AreSmallBelow};
 ghost use Rattle.stack_inverse.specs.RowBlock.{AreWithin, FitsByTop};
@@ -10,7 +10,7 @@ use crate::first::First;
 use crate::given::Given;
 use crate::making::{top_in, whole_top};
 use crate::row::PivotRow;
-use stack_rows::{Factors, PlainStep, Row, step_under};
+use stack_rows::{Factors, Row, SmallStep, step_fits};
 
 /// A top of the own cells of row i.
 pub fn own_top_of(given: &Given, i: usize) -> u128
@@ -23,21 +23,16 @@ pub fn own_top_of(given: &Given, i: usize) -> u128
     }
 }
 
-/// The denominator of a row after a step, before it is reduced. Gives up where a bound of what the step makes doesn't
-/// fit.
-fn over_by(
-    first: &First,
-    row: &Row,
-    pivot: &PivotRow,
-    factors: Factors,
-    own_top: u128,
-) -> Option<i128>
+/// Whether a bound of what a step makes of a row fits. The answer no isn't pinned.
+fn fits_by(first: &First, row: &Row, pivot: &PivotRow, factors: Factors, own_top: u128) -> bool
     requires { length row.now.numbers.items ≡ suc first.now.rows }
-    ensures { IfSome result (λ r. FitsByTop widest first.now.rows row.now.numbers.items row.now.under first.now.top
-        own_top factors.times factors.less pivot.now.whole_top r) }
+    ensures { result ≡ true → FitsByTop widest first.now.rows row.now.numbers.items row.now.under first.now.top own_top
+        factors.times factors.less pivot.now.whole_top }
 {
-    let own = whole_top(first, row.numbers.as_slice(), row.under, own_top, row.top)?;
-    step_under(row.under, factors, own, pivot.whole_top)
+    match whole_top(first, row.numbers.as_slice(), row.under, own_top, row.top) {
+        Some(own) => step_fits(row.under, factors, own, pivot.whole_top),
+        None => false,
+    }
 }
 
 /// The step of a row in which all is small, in each column: then it fits. Gives up where something may not be.
@@ -47,42 +42,41 @@ pub fn small_step(
     pivot: &PivotRow,
     factors: Factors,
     own_top: u128,
-) -> Option<PlainStep>
+) -> Option<SmallStep>
     requires width { length row.now.numbers.items ≡ suc first.now.rows }
     requires within { AreWithin (row_number first.now.rows first.now.columns.items pivot.now.row.numbers.items
         pivot.now.row.under) pivot.now.whole_top }
     ensures times { IfSome result (λ s. s.times ≡ factors.times) }
     ensures less { IfSome result (λ s. s.less ≡ factors.less) }
     ensures fits { OnSome result (FitsByTop widest first.now.rows row.now.numbers.items row.now.under first.now.top
-        own_top factors.times factors.less pivot.now.whole_top (row.now.under *ℤ factors.times)) }
+        own_top factors.times factors.less pivot.now.whole_top) }
     ensures small { OnSome result (AreSmallBelow first.now.rows factors.times factors.less row.now.numbers.items
         pivot.now.row.numbers.items) }
 {
     let own = whole_top(first, row.numbers.as_slice(), row.under, own_top, row.top)?;
-    let step = PlainStep::of(factors, own, pivot.whole_top, row.under.unsigned_abs())?;
+    let step = SmallStep::of(factors, own, pivot.whole_top, row.under.unsigned_abs())?;
     Some(step)
 }
 
-/// The same as `over_by`, with a lesser top where it doesn't fit by the one that is kept.
-pub fn over_for(
+/// The same, with a lesser top where it doesn't fit by the one that is kept.
+pub fn fits_for(
     first: &First,
     row: &mut Row,
     pivot: &PivotRow,
     factors: Factors,
     own_top: u128,
-) -> Option<i128>
+) -> bool
     requires { length row.old.numbers.items ≡ suc first.now.rows }
     ensures numbers { row.new.numbers.items ≡ row.old.numbers.items }
     ensures under { row.new.under ≡ row.old.under }
-    ensures fits { IfSome result (λ r. FitsByTop widest first.now.rows row.old.numbers.items row.old.under
-        first.now.top own_top factors.times factors.less pivot.now.whole_top r) }
+    ensures fits { result ≡ true → FitsByTop widest first.now.rows row.old.numbers.items row.old.under first.now.top
+        own_top factors.times factors.less pivot.now.whole_top }
 {
-    match over_by(first, row, pivot, factors, own_top) {
-        Some(over) => return Some(over),
-        None => {}
+    if fits_by(first, row, pivot, factors, own_top) {
+        return true;
     }
     row.tighten();
-    over_by(first, row, pivot, factors, own_top)
+    fits_by(first, row, pivot, factors, own_top)
 }
 
 /// The greatest size.

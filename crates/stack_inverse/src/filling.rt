@@ -44,9 +44,9 @@ fn put_first_rows(rows: &mut [TableRow], numbers: &mut [i128], right: &[i128]) -
     requires width { length numbers.old ≡ suc (length right.now) }
     requires height { length rows.old ≡ suc (length right.now) }
     requires widths { HaveWidths (length right.now) (seen_at rows.old) }
-    requires unmarked { (i : ℕ) → (seen_at rows.old i).fits ≡ false }
+    requires unfit { (i : ℕ) → (seen_at rows.old i).fits ≡ false }
     ensures widths { OnSome result (HaveWidths (length right.now) (seen_at rows.new)) }
-    ensures unmarked { OnSome result ((i : ℕ) → (seen_at rows.new i).fits ≡ false) }
+    ensures unfit { OnSome result ((i : ℕ) → (seen_at rows.new i).fits ≡ false) }
     ensures rest { IfSome result (λ s. s ≡ less_loads right.now (length right.now)) }
     ensures rows { OnSome result ((i : ℕ) → i < length right.now →
         IsFirstRow (length right.now) (seen_at rows.new) i (load_at right.now i)) }
@@ -63,9 +63,9 @@ pub fn fill(rows: &mut [TableRow], numbers: &mut [i128], right: &[i128]) -> Resu
     requires width { length numbers.old ≡ suc (length right.now) }
     requires height { length rows.old ≡ suc (length right.now) }
     requires widths { HaveWidths (length right.now) (seen_at rows.old) }
-    requires unmarked { (i : ℕ) → (seen_at rows.old i).fits ≡ false }
+    requires unfit { (i : ℕ) → (seen_at rows.old i).fits ≡ false }
     ensures widths { OnOk result (HaveWidths (length right.now) (seen_at rows.new)) }
-    ensures unmarked { OnOk result ((i : ℕ) → (seen_at rows.new i).fits ≡ false) }
+    ensures unfit { OnOk result ((i : ℕ) → (seen_at rows.new i).fits ≡ false) }
     ensures filled { OnOk result (AreFilled (length right.now) right.now (seen_at rows.new)) }
 {
     let rest = match put_first_rows(rows, numbers, right) {
@@ -89,7 +89,7 @@ pub fn zeros(alloc: Global, count: usize) -> Result<Vec<i128>, NoTable>
 pub fn rows_of(alloc: Global, width: u16) -> Result<Vec<TableRow>, NoTable>
     ensures height { IfOk result (λ r. length r.items ≡ width) }
     ensures widths { IfOk result (λ r. (i : ℕ) → i < width → length (seen_at r.items i).numbers ≡ width) }
-    ensures unmarked { IfOk result (λ r. (i : ℕ) → i < width → (seen_at r.items i).fits ≡ false) }
+    ensures unfit { IfOk result (λ r. (i : ℕ) → i < width → (seen_at r.items i).fits ≡ false) }
 {
     let mut rows = Vec::with_capacity(alloc, usize::from(width))?;
     for _ in 0..width {

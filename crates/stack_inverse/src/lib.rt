@@ -25,7 +25,6 @@ mod marks;
 mod objective;
 mod pivoting;
 mod reducing;
-mod remaking;
 mod remarking;
 mod revised_table;
 mod row;

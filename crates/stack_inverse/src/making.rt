@@ -1,7 +1,7 @@
 //! Numbers of the plain columns, made from those of the artificial ones, and their top.
 
-ghost use Rattle.std.specs.Prelude.{◌≡◌, ℕ, suc, ◌+◌, ◌-◌, ◌^◌, ◌<◌, ◌≤◌, ◌+ℤ◌, ◌*ℤ◌, length, get_or};
-ghost use Rattle.std.specs.Prelude.{unsigned_abs, false, ◌/◌, ℤ, pos, OnSome, IfSome};
+ghost use Rattle.std.specs.Prelude.{◌≡◌, ◌≢◌, ℕ, suc, ◌+◌, ◌-◌, ◌^◌, ◌<◌, ◌≤◌, ◌+ℤ◌, ◌*ℤ◌, length};
+ghost use Rattle.std.specs.Prelude.{unsigned_abs, ◌/◌, ℤ, pos, OnSome, IfSome};
 ghost use Rattle.std.specs.Int.{w128, int_wrap};
 ghost use Rattle.std.specs.List.{AllByRecursion};
 ghost use Rattle.stack_rational.specs.Laws.{widest};
@@ -16,9 +16,10 @@ use crate::columns::Cell;
 use crate::first::First;
 use crate::given::Given;
 use crate::marks::Marks;
+use crate::objective::clear_row;
 use crate::row::TableRow;
 use num_traits::CheckedAdd;
-use stack_rows::{product, product_of, size_product, whole_product};
+use stack_rows::{SMALL, product, product_of, size_product, whole_product};
 
 /// A sum and the product of a number and a word.
 fn added(sum: i128, number: i128, by: i64) -> Option<i128>
@@ -28,7 +29,7 @@ fn added(sum: i128, number: i128, by: i64) -> Option<i128>
 }
 
 /// The product of a number that is a word and a word.
-fn word_product(number: i128, by: i64) -> i128
+fn product_of_word(number: i128, by: i64) -> i128
     requires { unsigned_abs number ≤ 2 ^ 63 - 1 }
     ensures { result ≡ number *ℤ by }
 {
@@ -49,10 +50,8 @@ fn sum_over(cells: &[Cell], numbers: &[i128], start: i128) -> Option<i128>
     Some(sum)
 }
 
-/// The greatest size of the numbers of a column together, of which the sum of the products with words fits.
-const NARROW: u128 = 1 << 62;
-
-/// The sum of the products of a row of words with the numbers of a column, as far as it fits.
+/// The sum of the products of a row of words with the numbers of a column, without a test of the sum. It fits where the
+/// sizes of the column together aren't more than `SMALL`.
 fn sum_words(cells: &[Cell], numbers: &[i128]) -> Option<i128>
     requires { IsTopped numbers.now (2 ^ 63 - 1) }
     ensures wrapped { IfSome result (λ r.
@@ -65,7 +64,7 @@ fn sum_words(cells: &[Cell], numbers: &[i128]) -> Option<i128>
         if cell.row >= count {
             return None;
         }
-        sum = sum.wrapping_add(word_product(numbers[cell.row], cell.value));
+        sum = sum.wrapping_add(product_of_word(numbers[cell.row], cell.value));
     }
     Some(sum)
 }
@@ -92,40 +91,23 @@ pub fn number_of(given: &Given, row: &TableRow, i: usize, j: usize) -> Option<i1
     let own = own_over(given, i, j, row.row.under)?;
     let cells = given.first.columns[j].cells.as_slice();
     let numbers = row.row.numbers.as_slice();
-    if row.row.top <= i64::MAX as u128 && given.first.top <= NARROW {
+    if row.row.top <= i64::MAX as u128 && given.first.top <= SMALL {
         CheckedAdd::checked_add(&own, &sum_words(cells, numbers)?)
     } else {
         sum_over(cells, numbers, own)
     }
 }
 
-/// The same: 0 in a row without a mark, unless it is the objective row.
-fn entered_number(given: &Given, row: &TableRow, i: usize, j: usize, mark: bool) -> Option<i128>
-    requires column_in { j < length given.now.first.columns.items }
-    requires nothing { i < given.now.first.rows → mark ≡ false → AllByRecursion (λ x.
-        number_at row.now.row.numbers.items x.row ≡ pos 0) (cells_at given.now.first.columns.items j) }
-    requires row_in { i ≤ given.now.first.rows }
-    ensures { IfSome result (λ r. r ≡ number_in_row given.now (seen_of row.now) i j) }
-{
-    if !mark && i < given.first.rows {
-        return Some(0);
-    }
-    number_of(given, row, i, j)
-}
-
 /// The same. Gives up also where it or the right side of the row is the least number of all, whose size doesn't fit.
-fn sized_number(given: &Given, row: &TableRow, i: usize, j: usize, mark: bool) -> Option<i128>
+fn sized_number(given: &Given, row: &TableRow, i: usize, j: usize) -> Option<i128>
     requires column_in { j < length given.now.first.columns.items }
-    requires nothing { i < given.now.first.rows → mark ≡ false → AllByRecursion (λ x.
-        number_at row.now.row.numbers.items x.row ≡ pos 0) (cells_at given.now.first.columns.items j) }
-    requires row_in { i ≤ given.now.first.rows }
     requires width { length row.now.row.numbers.items ≡ suc given.now.first.rows }
     ensures number { IfSome result (λ r. r ≡ number_in_row given.now (seen_of row.now) i j) }
     ensures fit { IfSome result (λ r. unsigned_abs r ≤ unsigned_abs widest) }
     ensures right_fits { OnSome result (unsigned_abs (number_at row.now.row.numbers.items given.now.first.rows)
         ≤ unsigned_abs widest) }
 {
-    let number = entered_number(given, row, i, j, mark)?;
+    let number = number_of(given, row, i, j)?;
     let right = row.row.numbers[given.first.rows];
     if number == i128::MIN || right == i128::MIN {
         return None;
@@ -133,12 +115,12 @@ fn sized_number(given: &Given, row: &TableRow, i: usize, j: usize, mark: bool) -
     Some(number)
 }
 
-/// Makes the numbers of a plain column, row by row; `marks` has a mark of each row that may have something in one of
-/// the column's rows. Gives up likely where a sum of products doesn't fit.
+/// Makes the numbers of a plain column, row by row. `marks` has a mark of each row that may have something in one of
+/// the column's rows, and afterwards of those whose number isn't 0. Gives up likely where a sum of products doesn't fit.
 pub fn enter_column(
     given: &Given,
     rows: &[TableRow],
-    marks: &Marks,
+    marks: &mut Marks,
     entered: &mut [i128],
     column: usize,
 ) -> Option<()>
@@ -146,18 +128,27 @@ pub fn enter_column(
     requires height { length rows.now ≡ suc given.now.first.rows }
     requires widths { HaveWidths given.now.first.rows (seen_at rows.now) }
     requires column_in { column < length given.now.first.columns.items }
-    requires marks_long { given.now.first.rows / 64 < length marks.now.words.items }
-    requires nothing { (i : ℕ) → i < given.now.first.rows → mark_in marks.now.words.items i ≡ 0 → AllByRecursion (λ x.
+    requires marks_long { length marks.old.words.items ≡ suc (suc given.now.first.rows / 64) }
+    requires nothing { (i : ℕ) → i < given.now.first.rows → mark_in marks.old.words.items i ≡ 0 → AllByRecursion (λ x.
         number_at (seen_at rows.now i).numbers x.row ≡ pos 0) (cells_at given.now.first.columns.items column) }
     ensures numbers { OnSome result (AreEntered given.now.first.rows given.now.first.columns.items given.now.own.items
         (seen_at rows.now) column entered.new) }
     ensures fit { OnSome result ((i : ℕ) → i ≤ given.now.first.rows →
         unsigned_abs (number_at entered.new i) ≤ unsigned_abs widest) }
-    ensures right_fits { OnSome result ((i : ℕ) → i ≤ given.now.first.rows →
+    ensures right_fits { OnSome result ((i : ℕ) → i ≤ given.now.first.rows → number_at entered.new i ≢ pos 0 →
         unsigned_abs (number_at (seen_at rows.now i).numbers given.now.first.rows) ≤ unsigned_abs widest) }
+    ensures told { OnSome result ((i : ℕ) → i ≤ given.now.first.rows → mark_in marks.new.words.items i ≡ 0 →
+        number_at entered.new i ≡ pos 0) }
+    ensures marks_long { length marks.new.words.items ≡ length marks.old.words.items }
 {
-    for i in 0..entered.len() {
-        entered[i] = sized_number(given, &rows[i], i, column, marks.has(i))?;
+    clear_row(entered);
+    marks.put(given.first.rows);
+    let mut i = marks.next(0, rows.len());
+    while i < rows.len() {
+        let number = sized_number(given, &rows[i], i, column)?;
+        entered[i] = number;
+        marks.note(i, number);
+        i = marks.next(i + 1, rows.len());
     }
     Some(())
 }

@@ -6,7 +6,7 @@ ghost use Rattle.stack_rows.specs.RowForm.{number_at};
 ghost use Rattle.stack_bland.specs.Found.{TellsFound, IfFound};
 ghost use Rattle.stack_inverse.specs.Columns.{cells_at};
 ghost use Rattle.stack_inverse.specs.RowsSeen.{seen_of, number_in_row};
-ghost use Rattle.stack_inverse.specs.Marks.{mark_in, list_at, mark_at, IsWide, AreUses, AreClean, least_negative};
+ghost use Rattle.stack_inverse.specs.Marks.{mark_in, list_at, mark_at, HaveWords, AreUses, AreClean, least_negative};
 
 use crate::columns::{Cell, FirstColumn};
 use crate::first::First;
@@ -32,15 +32,6 @@ impl Marks {
     {
         let words = Vec::from_elem(alloc, 0, width / 64 + 1)?;
         Ok(Marks { words })
-    }
-
-    /// Whether a place is marked.
-    pub fn has(&self, j: usize) -> bool
-        requires { j / 64 < length self.now.words.items }
-        ensures { result ≡ false → mark_in self.now.words.items j ≡ 0 }
-    {
-        let words = self.words.as_slice();
-        (words[j / 64] >> (j % 64)) & 1 == 1
     }
 
     /// Marks a place.
@@ -94,21 +85,21 @@ impl Marks {
         }
     }
 
-    /// Marks the places at which numbers aren't 0, and no others.
-    pub fn find(&mut self, numbers: &[i128])
-        requires { length numbers.now / 64 < length self.old.words.items }
+    /// Marks a place exactly if a number isn't 0.
+    pub fn note(&mut self, j: usize, number: i128)
+        requires { j / 64 < length self.old.words.items }
         ensures long { length self.new.words.items ≡ length self.old.words.items }
-        ensures told { (i : ℕ) → mark_in self.new.words.items i ≡ 0 → number_at numbers.now i ≡ pos 0 }
+        ensures here { mark_in self.new.words.items j ≡ 0 → number ≡ pos 0 }
+        ensures others { (i : ℕ) → i ≢ j → mark_in self.new.words.items i ≡ mark_in self.old.words.items i }
     {
-        self.clear();
-        for i in 0..numbers.len() {
-            if numbers[i] != 0 {
-                self.put(i);
-            }
+        if number == 0 {
+            self.remove(j);
+        } else {
+            self.put(j);
         }
     }
 
-    /// The next place with a mark, where none before `from` has one; the end where none has.
+    /// The next place with a mark from one on; the end where none has.
     pub fn next(&self, from: usize, end: usize) -> usize
         requires long { length self.now.words.items ≡ suc (end / 64) }
         requires within { from ≤ end }
@@ -117,10 +108,14 @@ impl Marks {
         ensures none { (j : ℕ) → from ≤ j → j < result → mark_in self.now.words.items j ≡ 0 }
     {
         let words = self.words.as_slice();
-        for w in from / 64..words.len() {
+        let rest = words[from / 64] >> (from % 64);
+        if rest != 0 {
+            return from + (rest.trailing_zeros() as usize).min(end - from);
+        }
+        for w in from / 64 + 1..words.len() {
             let word = words[w];
             if word != 0 {
-                return from.max(w * 64 + (word.trailing_zeros() as usize).min(end - w * 64));
+                return w * 64 + (word.trailing_zeros() as usize).min(end - w * 64);
             }
         }
         end
@@ -132,7 +127,7 @@ fn mark_place(lists: &mut [Marks], r: usize, j: usize)
     requires list { r < length lists.old }
     requires place { j / 64 < length (list_at lists.old r) }
     ensures long { length lists.new ≡ length lists.old }
-    ensures wide { (w : ℕ) → IsWide lists.old w → IsWide lists.new w }
+    ensures wide { (w : ℕ) → HaveWords lists.old w → HaveWords lists.new w }
     ensures kept { (k i : ℕ) → mark_at lists.old k i ≢ 0 → mark_at lists.new k i ≢ 0 }
     ensures marked { mark_at lists.new r j ≢ 0 }
 {
@@ -142,8 +137,8 @@ fn mark_place(lists: &mut [Marks], r: usize, j: usize)
 /// Marks all places of each list.
 pub fn fill_lists(lists: &mut [Marks])
     ensures long { length lists.new ≡ length lists.old }
-    ensures wide { (w : ℕ) → IsWide lists.old w → IsWide lists.new w }
-    ensures each { (w r i : ℕ) → IsWide lists.old w → r < length lists.old → i / 64 < w → mark_at lists.new r i ≡ 1 }
+    ensures wide { (w : ℕ) → HaveWords lists.old w → HaveWords lists.new w }
+    ensures each { (w r i : ℕ) → HaveWords lists.old w → r < length lists.old → i / 64 < w → mark_at lists.new r i ≡ 1 }
 {
     for r in 0..lists.len() {
         lists[r].fill();
@@ -152,7 +147,7 @@ pub fn fill_lists(lists: &mut [Marks])
 
 /// Marks what the list of one of the rows of a column marks, and nothing else.
 pub fn mark_column(lists: &[Marks], cells: &[Cell], marks: &mut Marks)
-    requires wide { IsWide lists.now (length marks.old.words.items) }
+    requires wide { HaveWords lists.now (length marks.old.words.items) }
     requires rows { AllByRecursion (λ x. x.row < length lists.now) cells.now }
     ensures long { length marks.new.words.items ≡ length marks.old.words.items }
     ensures nothing { (i : ℕ) → mark_in marks.new.words.items i ≡ 0 →
@@ -166,11 +161,11 @@ pub fn mark_column(lists: &[Marks], cells: &[Cell], marks: &mut Marks)
 
 /// Marks a column in the lists of its rows.
 fn mark_use(uses: &mut [Marks], cells: &[Cell], j: usize, width: usize)
-    requires wide { IsWide uses.old (suc (width / 64)) }
+    requires wide { HaveWords uses.old (suc (width / 64)) }
     requires rows { AllByRecursion (λ x. x.row < length uses.old) cells.now }
     requires within { j ≤ width }
     ensures long { length uses.new ≡ length uses.old }
-    ensures wide { IsWide uses.new (suc (width / 64)) }
+    ensures wide { HaveWords uses.new (suc (width / 64)) }
     ensures kept { (r i : ℕ) → mark_at uses.old r i ≢ 0 → mark_at uses.new r i ≢ 0 }
     ensures marked { AllByRecursion (λ x. mark_at uses.new x.row j ≢ 0) cells.now }
 {
@@ -181,11 +176,11 @@ fn mark_use(uses: &mut [Marks], cells: &[Cell], j: usize, width: usize)
 
 /// Marks all columns in the lists of their rows.
 fn mark_uses(uses: &mut [Marks], columns: &[FirstColumn])
-    requires wide { IsWide uses.old (suc (length columns.now / 64)) }
+    requires wide { HaveWords uses.old (suc (length columns.now / 64)) }
     requires rows { (j : ℕ) → j < length columns.now → AllByRecursion (λ x. x.row < length uses.old)
         (cells_at columns.now j) }
     ensures long { length uses.new ≡ length uses.old }
-    ensures wide { IsWide uses.new (suc (length columns.now / 64)) }
+    ensures wide { HaveWords uses.new (suc (length columns.now / 64)) }
     ensures uses { AreUses uses.new columns.now }
 {
     for j in 0..columns.len() {
@@ -196,7 +191,7 @@ fn mark_uses(uses: &mut [Marks], columns: &[FirstColumn])
 /// For each row a list that marks the columns with a number there.
 pub fn uses_of(alloc: Global, first: &First) -> Result<Vec<Marks>, NoTable>
     ensures long { IfOk result (λ u. length u.items ≡ first.now.rows) }
-    ensures wide { IfOk result (λ u. IsWide u.items (suc (length first.now.columns.items / 64))) }
+    ensures wide { IfOk result (λ u. HaveWords u.items (suc (length first.now.columns.items / 64))) }
     ensures uses { IfOk result (λ u. AreUses u.items first.now.columns.items) }
 {
     let mut uses = Vec::with_capacity(alloc, first.rows)?;

@@ -1,18 +1,22 @@
 //! A pivot over the rows of a table.
 
-ghost use Rattle.std.specs.Prelude.{◌≡◌, ◌≢◌, ℕ, suc, ◌<◌, pos, ◌<ℤ◌, length, true, false, OnSome, OnOk, IfErr};
+ghost use Rattle.std.specs.Prelude.{◌≡◌, ◌≢◌, ℕ, suc, ◌<◌, ◌≤◌, ◌/◌, pos, ◌<ℤ◌, length, true, false, OnSome, OnOk};
+ghost use Rattle.std.specs.Prelude.{IfErr};
 ghost use Rattle.stack_algebra.proofs.OrderedFractions.{ordered_fractions};
 ghost use Rattle.stack_rational.specs.Laws.{widest};
 ghost use Rattle.stack_rational.specs.TooWide.{is_too_wide};
 ghost use Rattle.stack_table.specs.Spots.{cells_spot};
-ghost use Rattle.stack_inverse.specs.RowBlock.{IsPivotedCells, IsDividedRow, IsReducedRow, AreMarked};
+ghost use Rattle.stack_inverse.specs.RowBlock.{IsPivotedCells, IsDividedRow, IsReducedRow, AreFitting};
 ghost use Rattle.stack_inverse.specs.CellSteps.{TellsSpot, PivotIsRefused};
 ghost use Rattle.stack_inverse.specs.Columns.{HaveWidths, IsPut, AreEntered};
 ghost use Rattle.stack_inverse.specs.RowsSeen.{seen_of, seen_at, number_in_row, cell_in_row, cells_of_rows, pivot_cell};
 ghost use Rattle.stack_inverse.specs.RowsSeen.{IsPivotRow, columns_of};
+ghost use Rattle.stack_inverse.specs.Marks.{mark_in};
+ghost use Rattle.stack_rows.specs.RowForm.{number_at};
 
 use crate::bounding::{pivot_top, under_fits};
 use crate::given::Given;
+use crate::marks::Marks;
 use crate::reducing::reduce;
 use crate::row::{PivotRow, TableRow};
 use stack_rows::{Divider, Row};
@@ -67,13 +71,32 @@ fn put_pivot(rows: &mut [TableRow], i: usize, pivot: &Row)
     row.fits = true;
 }
 
-/// Reduces each row but the pivot's by the pivot row. `entered` has the numbers of the column. `TooWide` names the
-/// first operation that is too wide. Given up as `reduce` is.
+/// The next row that a pivot may change, from one on: where all are known to fit, the next in which the column has
+/// something.
+fn next_row(touched: &Marks, all_fit: bool, from: usize, end: usize) -> usize
+    requires long { length touched.now.words.items ≡ suc (end / 64) }
+    requires within { from ≤ end }
+    ensures later { from ≤ result }
+    ensures within { result ≤ end }
+    ensures none { (j : ℕ) → from ≤ j → j < result → (all_fit ≡ true) × (mark_in touched.now.words.items j ≡ 0) }
+{
+    if all_fit {
+        touched.next(from, end)
+    } else {
+        from
+    }
+}
+
+/// Reduces each row but the pivot's by the pivot row. `entered` has the numbers of the column, and a row without a mark
+/// has 0 there. `all_fit`: all rows are known to fit. `TooWide` names the first operation that is too wide. Given up as
+/// `reduce` is.
 fn reduce_others(
     given: &Given,
     rows: &mut [TableRow],
     pivot: &PivotRow,
     entered: &[i128],
+    touched: &Marks,
+    all_fit: bool,
     row: usize,
     column: usize,
 ) -> Result<(), TurnRefusal>
@@ -83,9 +106,14 @@ fn reduce_others(
     requires long { length entered.now ≡ suc given.now.first.rows }
     requires entered { AreEntered given.now.first.rows given.now.first.columns.items given.now.own.items
         (seen_at rows.old) column entered.now }
-    requires marked { AreMarked widest (cells_of_rows given.now rows.old) (seen_at rows.old) }
+    requires fitting { AreFitting widest (cells_of_rows given.now rows.old) (seen_at rows.old) }
+    requires touched_long { length touched.now.words.items ≡ suc (suc given.now.first.rows / 64) }
+    requires touched { (i : ℕ) → i ≤ given.now.first.rows → mark_in touched.now.words.items i ≡ 0 →
+        number_at entered.now i ≡ pos 0 }
+    requires all_fit { all_fit ≡ true → (i : ℕ) → i ≤ given.now.first.rows → (seen_at rows.old i).fits ≡ true }
     ensures widths { HaveWidths given.now.first.rows (seen_at rows.new) }
-    ensures marked { AreMarked widest (cells_of_rows given.now rows.new) (seen_at rows.new) }
+    ensures fitting { AreFitting widest (cells_of_rows given.now rows.new) (seen_at rows.new) }
+    ensures fit { OnOk result ((k : ℕ) → k < suc given.now.first.rows → (k ≢ row) → (seen_at rows.new k).fits ≡ true) }
     ensures ok { OnOk result ((k : ℕ) → k < suc given.now.first.rows → (k ≢ row) →
         IsReducedRow widest (columns_of given.now) (cells_of_rows given.now rows.old k) (pivot_cell given.now pivot.now)
         k column (cells_of_rows given.now rows.new k)) }
@@ -93,40 +121,51 @@ fn reduce_others(
         (cells_of_rows given.now rows.old) (pivot_cell given.now pivot.now) row column e) }
 {
     let divider = Divider::of(pivot.row.under);
-    for i in 0..rows.len() {
+    let mut i = next_row(touched, all_fit, 0, rows.len());
+    while i < rows.len() {
         if i == row {
+            i = next_row(touched, all_fit, i + 1, rows.len());
             continue;
         }
         match reduce(given, &mut rows[i], pivot, divider, entered[i], i) {
             Ok(()) => {}
             Err(e) => return Err(e),
         }
+        i = next_row(touched, all_fit, i + 1, rows.len());
     }
     Ok(())
 }
 
-/// A pivot at a row and a column, whose numbers are `entered`; `pivot` is room for the pivot row. `TooWide` names the
-/// first operation that is too wide. Given up where the row can't be divided, or another not reduced.
+/// A pivot at a row and a column, whose numbers are `entered`; `pivot` is room for the pivot row. `touched` and
+/// `all_fit` as in `reduce_others`. `TooWide` names the first operation that is too wide. Given up where the row can't be
+/// divided, or another not reduced.
 pub fn pivot_rows(
     given: &Given,
     rows: &mut [TableRow],
     pivot: &mut PivotRow,
     entered: &[i128],
+    touched: &Marks,
+    all_fit: bool,
     row: usize,
     column: usize,
 ) -> Result<(), TurnRefusal>
     requires height { length rows.old ≡ suc given.now.first.rows }
     requires widths { HaveWidths given.now.first.rows (seen_at rows.old) }
     requires room { length pivot.old.row.numbers.items ≡ suc given.now.first.rows }
-    requires marked { AreMarked widest (cells_of_rows given.now rows.old) (seen_at rows.old) }
+    requires fitting { AreFitting widest (cells_of_rows given.now rows.old) (seen_at rows.old) }
     requires long { length entered.now ≡ suc given.now.first.rows }
     requires entered { AreEntered given.now.first.rows given.now.first.columns.items given.now.own.items
         (seen_at rows.old) column entered.now }
+    requires touched_long { length touched.now.words.items ≡ suc (suc given.now.first.rows / 64) }
+    requires touched { (i : ℕ) → i ≤ given.now.first.rows → mark_in touched.now.words.items i ≡ 0 →
+        number_at entered.now i ≡ pos 0 }
+    requires all_fit { all_fit ≡ true → (i : ℕ) → i ≤ given.now.first.rows → (seen_at rows.old i).fits ≡ true }
     requires row_in { row < given.now.first.rows }
     requires some { number_in_row given.now (seen_at rows.old row) row column ≢ pos 0 }
     ensures widths { HaveWidths given.now.first.rows (seen_at rows.new) }
     ensures room { length pivot.new.row.numbers.items ≡ length pivot.old.row.numbers.items }
-    ensures marked { AreMarked widest (cells_of_rows given.now rows.new) (seen_at rows.new) }
+    ensures fitting { AreFitting widest (cells_of_rows given.now rows.new) (seen_at rows.new) }
+    ensures fit { OnOk result ((k : ℕ) → k ≤ given.now.first.rows → (seen_at rows.new k).fits ≡ true) }
     ensures ok { OnOk result (IsPivotedCells widest (suc given.now.first.rows) (columns_of given.now)
         (cells_of_rows given.now rows.old) row column (cells_of_rows given.now rows.new)) }
     ensures refused { IfErr result (λ e. TellsSpot e (cells_spot ordered_fractions (is_too_wide widest)
@@ -136,7 +175,7 @@ pub fn pivot_rows(
         Some(()) => {}
         None => return Err(TurnRefusal::Unsettled),
     }
-    match reduce_others(given, rows, pivot, entered, row, column) {
+    match reduce_others(given, rows, pivot, entered, touched, all_fit, row, column) {
         Ok(()) => {
             put_pivot(rows, row, &pivot.row);
             Ok(())

@@ -12,13 +12,12 @@ ghost use Rattle.stack_inverse.specs.RowBlock.{IsReducedRow, AllNumbersFit};
 ghost use Rattle.stack_inverse.specs.CellSteps.{TellsSpot};
 ghost use Rattle.stack_inverse.specs.RowsSeen.{seen_of, number_in_row, cell_in_row, pivot_cell, IsPivotRow, columns_of};
 
-use crate::bounding::{over_for, own_top_of, small_step, under_fits};
+use crate::bounding::{fits_for, own_top_of, small_step, under_fits};
 use crate::given::Given;
-use crate::remaking::remake_row;
 use crate::row::{PivotRow, TableRow};
 use crate::spots::{RowStep, cell, numbers_fit, reduced_cell, row_spot};
 use stack_bland::Found;
-use stack_rows::{Divider, Row, factors_of};
+use stack_rows::{Divider, Row, factors_of, remake_row};
 use stack_table::TurnRefusal;
 
 /// Whether the first numbers of a step fit, one by one: a hint.
@@ -108,7 +107,7 @@ fn step_by_cells(
     requires under { s.now.under ≡ row.old.row.under }
     requires pivot_under { s.now.pivot_under ≡ pivot.now.row.under }
     ensures width { length row.new.row.numbers.items ≡ length row.old.row.numbers.items }
-    ensures mark { row.new.fits ≡ row.old.fits }
+    ensures fits { row.new.fits ≡ row.old.fits }
     ensures ok { OnOk result (IsTaken row.old.row.numbers.items (s.now.under *ℤ s.now.pivot_under)
         pivot.now.row.numbers.items s.now.pivot_under s.now.number row.new.row.numbers.items row.new.row.under) }
     ensures none { OnOk result (reduce_spot ordered_fractions (is_too_wide widest) (columns_of given.now)
@@ -142,7 +141,7 @@ fn step(
     requires pivot { IsPivotRow given.now pivot.now }
     requires divider { divider.by ≡ pivot.now.row.under }
     ensures width { length row.new.row.numbers.items ≡ length row.old.row.numbers.items }
-    ensures mark { row.new.fits ≡ row.old.fits }
+    ensures fits { row.new.fits ≡ row.old.fits }
     ensures ok { OnOk result ((column : ℕ) → number ≡ number_in_row given.now (seen_of row.old) i column →
         IsReducedRow widest (columns_of given.now) (cell_in_row given.now (seen_of row.old) i)
         (pivot_cell given.now pivot.now) i column (cell_in_row given.now (seen_of row.new) i)) }
@@ -157,37 +156,35 @@ fn step(
     };
     let own_top = own_top_of(given, i);
     match small_step(&given.first, &row.row, pivot, factors, own_top) {
-        Some(plain) => return match row.row.take_small(&pivot.row, &plain) {
+        Some(step) => return match row.row.take_small(&pivot.row, &step) {
             Some(()) => Ok(()),
             None => Err(TurnRefusal::Unsettled),
         },
         None => {}
     }
-    match over_for(&given.first, &mut row.row, pivot, factors, own_top) {
-        Some(_over) => match row.row.take(&pivot.row, factors) {
+    if fits_for(&given.first, &mut row.row, pivot, factors, own_top) {
+        return match row.row.take(&pivot.row, factors) {
             Some(()) => Ok(()),
             None => Err(TurnRefusal::Unsettled),
-        },
-        None => {
-            let cell = match cell(number, row.row.under) {
-                Some(cell) => cell,
-                None => return Err(TurnRefusal::Unsettled),
-            };
-            let s = RowStep {
-                under: row.row.under,
-                pivot_under: pivot.row.under,
-                number,
-                cell,
-                factors,
-            };
-            match step_by_cells(given, row, pivot, &s, i) {
-                Ok(()) => {
-                    under_fits(&row.row);
-                    Ok(())
-                }
-                Err(e) => Err(e),
-            }
+        };
+    }
+    let cell = match cell(number, row.row.under) {
+        Some(cell) => cell,
+        None => return Err(TurnRefusal::Unsettled),
+    };
+    let s = RowStep {
+        under: row.row.under,
+        pivot_under: pivot.row.under,
+        number,
+        cell,
+        factors,
+    };
+    match step_by_cells(given, row, pivot, &s, i) {
+        Ok(()) => {
+            under_fits(&row.row);
+            Ok(())
         }
+        Err(e) => Err(e),
     }
 }
 
@@ -213,7 +210,8 @@ pub fn reduce(
     requires pivot { IsPivotRow given.now pivot.now }
     requires divider { divider.by ≡ pivot.now.row.under }
     ensures width { length row.new.row.numbers.items ≡ length row.old.row.numbers.items }
-    ensures unmarked { IfErr result (λ e. row.new.fits ≡ false) }
+    ensures unfit { IfErr result (λ e. row.new.fits ≡ false) }
+    ensures fitting { OnOk result (row.new.fits ≡ true) }
     ensures ok { OnOk result ((column : ℕ) → number ≡ number_in_row given.now (seen_of row.old) i column →
         (row.old.fits ≡ true → AllNumbersFit widest (cell_in_row given.now (seen_of row.old) i)) →
         IsReducedRow widest (columns_of given.now) (cell_in_row given.now (seen_of row.old) i)

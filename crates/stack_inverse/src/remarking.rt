@@ -1,7 +1,7 @@
 //! The marks of the first rows, and those after a pivot.
 
 ghost use Rattle.std.specs.Prelude.{◌≡◌, ◌≢◌, ℕ, suc, ◌<◌, ◌≤◌, ◌/◌, length, true, false, IfOk};
-ghost use Rattle.stack_inverse.specs.Marks.{mark_at, IsWide, AreMarkedOn, AreFull};
+ghost use Rattle.stack_inverse.specs.Marks.{mark_at, HaveWords, AreMarkedOn, AreFull};
 
 use crate::marks::{Marks, fill_lists};
 use crate::stops::NoTable;
@@ -11,7 +11,7 @@ use std::alloc::Global;
 pub fn first_places(alloc: Global, rows: usize, width: usize) -> Result<Vec<Marks>, NoTable>
     requires { rows ≤ width }
     ensures long { IfOk result (λ l. length l.items ≡ rows) }
-    ensures wide { IfOk result (λ l. IsWide l.items (suc (width / 64))) }
+    ensures wide { IfOk result (λ l. HaveWords l.items (suc (width / 64))) }
     ensures diagonal { IfOk result (λ l. (r : ℕ) → r < rows → mark_at l.items r r ≢ 0) }
 {
     let mut places = Vec::with_capacity(alloc, rows)?;
@@ -23,36 +23,32 @@ pub fn first_places(alloc: Global, rows: usize, width: usize) -> Result<Vec<Mark
     Ok(places)
 }
 
-/// Marks on after a pivot: `row` is the pivot's row by now, `entered` the numbers that its column had, and `touched`
-/// room. Where the pivot wasn't done, all is marked.
+/// Marks on after a pivot: `row` is the pivot's row by now, and `touched` marks the rows in which its column had
+/// something. Where the pivot wasn't done, all is marked.
 pub fn mark_on(
     done: bool,
     places: &mut [Marks],
     uses: &[Marks],
-    touched: &mut Marks,
+    touched: &Marks,
     open: &mut Marks,
     row: &[i128],
-    entered: &[i128],
 )
-    requires wide { IsWide places.old (length touched.old.words.items) }
-    requires uses_wide { IsWide uses.now (length «open».old.words.items) }
-    requires entered { length entered.now / 64 < length touched.old.words.items }
+    requires wide { HaveWords places.old (length touched.now.words.items) }
+    requires uses_wide { HaveWords uses.now (length «open».old.words.items) }
     requires width { length places.old ≤ length row.now }
     requires uses_long { length uses.now ≡ length places.old }
     ensures long { length places.new ≡ length places.old }
-    ensures wide { IsWide places.new (length touched.old.words.items) }
-    ensures touched { length touched.new.words.items ≡ length touched.old.words.items }
+    ensures wide { HaveWords places.new (length touched.now.words.items) }
     ensures marks { length «open».new.words.items ≡ length «open».old.words.items }
-    ensures done { done ≡ true → AreMarkedOn places.old uses.now «open».old.words.items row.now entered.now places.new
-        «open».new.words.items }
-    ensures full { done ≡ false → AreFull places.new (length touched.old.words.items) «open».new.words.items }
+    ensures done { done ≡ true → AreMarkedOn places.old uses.now «open».old.words.items row.now touched.now.words.items
+        places.new «open».new.words.items }
+    ensures full { done ≡ false → AreFull places.new (length touched.now.words.items) «open».new.words.items }
 {
     if !done {
         fill_lists(places);
         open.fill();
         return;
     }
-    touched.find(entered);
     for r in 0..places.len() {
         if row[r] != 0 {
             places[r].join(touched);

@@ -1,13 +1,14 @@
 //! The table of a run by its artificial columns.
 
-ghost use Rattle.std.specs.Prelude.{◌≡◌, ℕ, suc, ◌+◌, ◌<◌, ◌/◌, length, get_or, IfOk};
+ghost use Rattle.std.specs.Prelude.{◌≡◌, ℕ, suc, ◌+◌, ◌<◌, ◌≤◌, ◌/◌, length, get_or, true};
 ghost use Rattle.stack_rational.specs.Laws.{widest};
+ghost use Rattle.stack_whole.specs.Limits.{most_rows};
 ghost use Rattle.stack_table.specs.Table.{plain, columns};
 ghost use Rattle.stack_table.specs.Block.{shape_of};
-ghost use Rattle.stack_inverse.specs.RowBlock.{AreMarked};
+ghost use Rattle.stack_inverse.specs.RowBlock.{AreFitting};
 ghost use Rattle.stack_inverse.specs.Columns.{HaveWidths};
 ghost use Rattle.stack_bland.specs.Found.{TellsFound, IfFound};
-ghost use Rattle.stack_inverse.specs.Marks.{IsWide, ArePlaces, AreUses, AreClean, least_negative};
+ghost use Rattle.stack_inverse.specs.Marks.{HaveWords, ArePlaces, AreUses, AreClean, least_negative};
 ghost use Rattle.stack_inverse.specs.RowsSeen.{seen_at, cells_of_rows, number_in_row};
 ghost use Rattle.stack_inverse.specs.FoundProps.{TellsFound-prop, below_prop};
 ghost use Rattle.std.proofs.Props.{props};
@@ -27,17 +28,12 @@ use stack_rows::Row;
 use stack_table::{Problem, TurnRefusal, row_with};
 use std::alloc::Global;
 
-/// The greatest number of rows: places in a row are of 16 bits.
-const MOST_ROWS: usize = 65_534;
-
-/// How many numbers a row has, the right side among them. Gives up where the rows are more than 65,534.
-fn width_of(rows: usize) -> Result<u16, NoTable>
-    ensures { IfOk result (λ w. w ≡ suc rows) }
+/// How many numbers a row has, the right side among them: places in a row are of 16 bits.
+fn width_of(rows: usize) -> u16
+    requires { rows ≤ most_rows }
+    ensures { result ≡ suc rows }
 {
-    if MOST_ROWS < rows {
-        return Err(NoTable::Unsettled);
-    }
-    Ok((rows + 1) as u16)
+    (rows + 1) as u16
 }
 
 /// The exact table of a run. Row `rows` is the objective row.
@@ -56,8 +52,10 @@ pub struct RevisedTable {
     places: Vec<Marks>,
     /// For each row a list of marks: a plain column without one has no number there.
     uses: Vec<Marks>,
-    /// Room for a mark of each row.
+    /// Marks of the rows in which the entering column has something.
     touched: Marks,
+    /// Whether all cells of all rows are known to fit.
+    all_fit: bool,
     /// Marks of plain columns: in one without a mark the objective row isn't negative.
     open: Marks,
     /// The least plain column in which it is.
@@ -67,15 +65,16 @@ pub struct RevisedTable {
     ghost plain_count: { length given.first.columns.items ≡ plain (shape_of given.first.rows contacts has_factor) },
     ghost height: { length rows.items ≡ suc given.first.rows },
     ghost widths: { HaveWidths given.first.rows (seen_at rows.items) },
-    ghost marked: { AreMarked widest (cells_of_rows given rows.items) (seen_at rows.items) },
+    ghost fitting: { AreFitting widest (cells_of_rows given rows.items) (seen_at rows.items) },
     ghost room: { length pivot.row.numbers.items ≡ suc given.first.rows },
     ghost one_number: { length entered.items ≡ suc given.first.rows },
     ghost places_long: { length places.items ≡ given.first.rows },
-    ghost places_wide: { IsWide places.items (suc (suc given.first.rows / 64)) },
+    ghost places_wide: { HaveWords places.items (suc (suc given.first.rows / 64)) },
     ghost told: { ArePlaces places.items given.first.rows (seen_at rows.items) },
     ghost uses_long: { length uses.items ≡ given.first.rows },
-    ghost uses_wide: { IsWide uses.items (suc (length given.first.columns.items / 64)) },
+    ghost uses_wide: { HaveWords uses.items (suc (length given.first.columns.items / 64)) },
     ghost used: { AreUses uses.items given.first.columns.items } by { Prim.hlevel props },
+    ghost each_fits: { all_fit ≡ true → (i : ℕ) → i ≤ given.first.rows → (seen_at rows.items i).fits ≡ true },
     ghost touched_long: { length touched.words.items ≡ suc (suc given.first.rows / 64) },
     ghost open_long: { length open.words.items ≡ suc (length given.first.columns.items / 64) },
     ghost clean: { AreClean (number_in_row given (seen_at rows.items given.first.rows) given.first.rows)
@@ -89,7 +88,7 @@ pub struct RevisedTable {
 }
 
 impl RevisedTable {
-    ghost use Rattle.std.specs.Prelude.{◌≢◌, ◌≤◌, ◌<ℤ◌, pos, cond, OnSome, None, IfSome, IfOk, OnOk, IfErr};
+    ghost use Rattle.std.specs.Prelude.{◌≢◌, ◌<ℤ◌, pos, cond, OnSome, None, IfSome, IfOk, OnOk, IfErr};
     ghost use Rattle.stack_inverse.specs.CellSteps.{TellsSpot};
     ghost use Rattle.stack_rows.specs.RowForm.{number_at};
     ghost use Rattle.stack_algebra.proofs.OrderedFractions.{ordered_fractions};
@@ -108,7 +107,7 @@ impl RevisedTable {
         ensures ok { IfOk result (λ t. table_of_revised t ≡ written_table ordered_fractions (problem_of p.now)) }
     {
         let given = given_of(alloc, p)?;
-        let width = width_of(p.rows)?;
+        let width = width_of(p.rows);
         let mut rows = rows_of(alloc, width)?;
         let pivot = PivotRow {
             row: Row::zeros(alloc, width)?,
@@ -136,6 +135,7 @@ impl RevisedTable {
             places,
             uses,
             touched,
+            all_fit: false,
             open,
             least,
             contacts: p.contact.len(),
@@ -202,7 +202,7 @@ impl RevisedTable {
         enter_column(
             &self.given,
             self.rows.as_slice(),
-            &self.touched,
+            &mut self.touched,
             self.entered.as_mut_slice(),
             column,
         )
@@ -280,17 +280,20 @@ impl RevisedTable {
             self.rows.as_mut_slice(),
             &mut self.pivot,
             self.entered.as_slice(),
+            &self.touched,
+            self.all_fit,
             row,
             column,
         );
+        let ok = done.is_ok();
+        self.all_fit = ok;
         mark_on(
-            done.is_ok(),
+            ok,
             self.places.as_mut_slice(),
             self.uses.as_slice(),
-            &mut self.touched,
+            &self.touched,
             &mut self.open,
             self.rows[row].row.numbers.as_slice(),
-            self.entered.as_slice(),
         );
         let last = self.given.first.rows;
         self.least = least_negative(&self.given, &self.rows[last], &mut self.open);
@@ -307,6 +310,7 @@ impl RevisedTable {
         clear_row(self.entered.as_mut_slice());
         clear_row(self.given.own.as_mut_slice());
         self.given.own_top = 0;
+        self.all_fit = false;
         put_row(self.rows.as_mut_slice(), last, self.entered.as_slice(), 1);
         self.open.fill();
         self.least = least_negative(&self.given, &self.rows[last], &mut self.open);
@@ -332,6 +336,7 @@ impl RevisedTable {
         clear_row(self.given.own.as_mut_slice());
         self.given.own_top = 1;
         set_only(self.given.own.as_mut_slice(), self.contacts, -1);
+        self.all_fit = false;
         put_row(
             self.rows.as_mut_slice(),
             last,

@@ -16,7 +16,7 @@ use crate::making::{number_of, row_number};
 use crate::row::TableRow;
 use stack_bland::Found;
 use stack_rational::{Exact, Frac, over};
-use stack_rows::{Factors, step_under};
+use stack_rows::{Cells, Factors, step_fits};
 use stack_table::{PivotWide, Step};
 
 /// What a row step is made of: the denominators of the row and of the pivot row, the row's number in the pivot's
@@ -37,14 +37,14 @@ pub struct RowStep {
 
 /// The cells of a row and of the pivot row in a column, and the row's cell in the pivot's column.
 #[derive(Clone, Copy)]
-struct Cells {
+struct ColumnCells {
     own: Frac<i128>,
     pivot: Frac<i128>,
     factor: Frac<i128>,
 }
 
 /// The cell less the factor times the pivot row's, or the step that is too wide.
-fn reduced(c: Cells) -> Result<Frac<i128>, Step>
+fn reduced(c: ColumnCells) -> Result<Frac<i128>, Step>
     ensures { TellsCell result c.own c.pivot c.factor }
 {
     let product = match c.factor.product(c.pivot) {
@@ -75,7 +75,7 @@ pub fn reduced_cell(s: &RowStep, own: i128, pivot: i128) -> Option<Result<Frac<i
 {
     let own = cell(own, s.under)?;
     let pivot = cell(pivot, s.pivot_under)?;
-    Some(reduced(Cells {
+    Some(reduced(ColumnCells {
         own,
         pivot,
         factor: s.cell,
@@ -87,9 +87,21 @@ pub fn numbers_fit(s: &RowStep, own: i128, pivot: i128) -> bool
     ensures { result ≡ true → TellsStep None (over own s.now.under) (over pivot s.now.pivot_under)
         (over s.now.number s.now.under) }
 {
-    match step_under(s.under, s.factors, own.unsigned_abs(), pivot.unsigned_abs()) {
-        Some(_over) => true,
-        None => false,
+    step_fits(s.under, s.factors, own.unsigned_abs(), pivot.unsigned_abs())
+}
+
+impl Cells for RowStep {
+    ghost times = { λ s. s.pivot_under };
+
+    ghost less = { λ s. s.number };
+
+    ghost over = { λ s. s.under *ℤ s.pivot_under };
+
+    fn cell(&self, own: i128, other: i128) -> Option<Frac<i128>> {
+        match reduced_cell(self, own, other)? {
+            Ok(reduced) => Some(reduced),
+            Err(_) => None,
+        }
     }
 }
 

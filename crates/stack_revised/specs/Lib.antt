@@ -1,2 +1,3 @@
 pub mod NoCell
 pub mod Ended
+pub mod Reads

@@ -15,6 +15,7 @@
 #![tactic(auto)]
 
 mod last;
+mod read;
 mod reading;
 mod running;
 mod stops;

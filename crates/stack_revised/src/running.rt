@@ -1,9 +1,8 @@
 //! The run of a problem.
 
-ghost use Rattle.std.specs.Prelude.{◌≡◌, ℕ, ◌+◌, ◌<◌, false, length, get_or, IfOk, IfErr};
+ghost use Rattle.std.specs.Prelude.{◌≡◌, ℕ, ◌<◌, false, length, get_or, IfSome, IfOk, IfErr};
 ghost use Rattle.stack_rational.specs.Laws.{widest};
 ghost use Rattle.stack_table.specs.Problem.{flipped};
-ghost use Rattle.stack_table.specs.Table.{plain, columns};
 ghost use Rattle.stack_table.specs.Lent.{IsProblem, shape_of_problem, problem_of};
 ghost use Rattle.stack_run.specs.ProblemRun.{run_at};
 ghost use Rattle.stack_inverse.specs.Seen.{shape_of_revised, table_of_revised};
@@ -11,11 +10,13 @@ ghost use Rattle.stack_inverse.specs.FirstTable.{flips};
 ghost use Rattle.stack_revised.specs.Ended.{shape_of_last, flips_of_last, value_of_last};
 ghost use Rattle.stack_revised.specs.NoCell.{nothing};
 ghost use Rattle.stack_revised.specs.Ended.{TellsWrittenRun, TellsNothing, stopped_as};
+ghost use Rattle.stack_revised.specs.Reads.{IsPlain, read_at};
 ghost use Rattle.stack_tableau.specs.EndKinds.{end_at};
 ghost use Rattle.stack_tableau.specs.declared.end_kind.EndKind.TheVariants as end_kind;
 ghost use Rattle.stack_revised.specs.declared.stops.RevisedStop.TheVariants as revised_stop;
 
 use crate::last::Last;
+use crate::read::Read;
 use crate::stops::RevisedStop;
 use crate::tableau::Revised;
 use stack_inverse::{NoTable, RevisedTable, cell};
@@ -36,53 +37,32 @@ fn flips(alloc: Global, right: &[i128]) -> Result<Vec<bool>, RevisedStop>
     Ok(flipped)
 }
 
-/// The cells of a column, row by row. Gives up likely where a number doesn't fit.
-fn column_of(alloc: Global, t: &RevisedTable, column: usize) -> Result<Vec<Frac<i128>>, RevisedStop>
-    requires { column < plain (shape_of_revised t.now) }
+/// The cell that is read in a row. Gives up likely where a number of a column doesn't fit.
+fn cell_of(t: &RevisedTable, read: Read, i: usize) -> Option<Frac<i128>>
+    requires row_in { i < (shape_of_revised t.now).rows }
+    requires column_in { IsPlain (shape_of_revised t.now) read }
+    ensures { IfSome result (λ x. x ≡ read_at t.now read i) }
+{
+    match read {
+        Read::Column { column } => {
+            let number = t.number(i, column)?;
+            cell(number, t.under(i))
+        }
+        Read::Right => cell(t.right(i), t.under(i)),
+        Read::Multipliers => cell(t.multiplier(i), t.under(t.rows())),
+    }
+}
+
+/// What is read of a table, row by row. Gives up as `cell_of` does.
+fn list_of(alloc: Global, t: &RevisedTable, read: Read) -> Result<Vec<Frac<i128>>, RevisedStop>
+    requires { IsPlain (shape_of_revised t.now) read }
     ensures long { IfOk result (λ c. length c.items ≡ (shape_of_revised t.now).rows) }
     ensures each { IfOk result (λ c. (i : ℕ) → i < (shape_of_revised t.now).rows →
-        get_or c.items i nothing ≡ (table_of_revised t.now).cell i column) }
+        get_or c.items i nothing ≡ read_at t.now read i) }
 {
     let mut cells = Vec::with_capacity(alloc, t.rows())?;
     for i in 0..t.rows() {
-        let number = match t.number(i, column) {
-            Some(number) => number,
-            None => return Err(RevisedStop::Unsettled),
-        };
-        match cell(number, t.under(i)) {
-            Some(cell) => cells.push(cell)?,
-            None => return Err(RevisedStop::Unsettled),
-        }
-    }
-    Ok(cells)
-}
-
-/// The right sides, row by row. Gives up likely nowhere.
-fn right_of(alloc: Global, t: &RevisedTable) -> Result<Vec<Frac<i128>>, RevisedStop>
-    ensures long { IfOk result (λ c. length c.items ≡ (shape_of_revised t.now).rows) }
-    ensures each { IfOk result (λ c. (i : ℕ) → i < (shape_of_revised t.now).rows → get_or c.items i nothing
-        ≡ (table_of_revised t.now).cell i (columns (shape_of_revised t.now))) }
-{
-    let mut cells = Vec::with_capacity(alloc, t.rows())?;
-    for i in 0..t.rows() {
-        match cell(t.right(i), t.under(i)) {
-            Some(cell) => cells.push(cell)?,
-            None => return Err(RevisedStop::Unsettled),
-        }
-    }
-    Ok(cells)
-}
-
-/// The cells of the objective row in the artificial columns. Gives up likely nowhere.
-fn multipliers_of(alloc: Global, t: &RevisedTable) -> Result<Vec<Frac<i128>>, RevisedStop>
-    ensures long { IfOk result (λ c. length c.items ≡ (shape_of_revised t.now).rows) }
-    ensures each { IfOk result (λ c. (i : ℕ) → i < (shape_of_revised t.now).rows → get_or c.items i nothing
-        ≡ (table_of_revised t.now).cell (shape_of_revised t.now).rows (plain (shape_of_revised t.now) + i)) }
-{
-    let under = t.under(t.rows());
-    let mut cells = Vec::with_capacity(alloc, t.rows())?;
-    for i in 0..t.rows() {
-        match cell(t.multiplier(i), under) {
+        match cell_of(t, read, i) {
             Some(cell) => cells.push(cell)?,
             None => return Err(RevisedStop::Unsettled),
         }
@@ -107,7 +87,7 @@ fn read_column(
             if t.plain() <= column {
                 return Err(RevisedStop::Unsettled);
             }
-            column_of(alloc, t, column)
+            list_of(alloc, t, Read::Column { column })
         }
         EndKind::Infeasible => Ok(Vec::new(alloc)),
         EndKind::Feasible => Ok(Vec::new(alloc)),
@@ -128,8 +108,8 @@ fn last_of(
     ensures value { IfOk result (λ l. value_of_last l ≡ end_at kind (table_of_revised table)) }
     ensures unsettled { IfErr result (λ e. TellsNothing e) }
 {
-    let right = right_of(alloc, &table);
-    let multipliers = multipliers_of(alloc, &table);
+    let right = list_of(alloc, &table, Read::Right);
+    let multipliers = list_of(alloc, &table, Read::Multipliers);
     let column = read_column(alloc, &table, kind);
     match (right, multipliers, column) {
         (Ok(right), Ok(multipliers), Ok(column)) => Ok(Last {

@@ -13,7 +13,7 @@ raised_number x z by d m q w a hz hw ha hx = (λ i. hx i *ℤ sym hw i) ∙ turn
     turn z m d by = simp expand (omega (arith, sums))
 
 -- and one that is put: n over e
-put_number : (x p n e q w a : ℤ) → n *ℤ w ≡ q *ℤ e → p *ℤ e ≡ a → x ≡ p *ℤ n → x *ℤ w ≡ q *ℤ a
+pub put_number : (x p n e q w a : ℤ) → n *ℤ w ≡ q *ℤ e → p *ℤ e ≡ a → x ≡ p *ℤ n → x *ℤ w ≡ q *ℤ a
 put_number x p n e q w a hn ha hx = ap (λ z. z *ℤ w) hx ∙ left p n w ∙ ap (λ z. p *ℤ z) hn ∙ right p q e
     ∙ ap (λ z. q *ℤ z) ha
   where
@@ -24,7 +24,7 @@ put_number x p n e q w a hn ha hx = ap (λ z. z *ℤ w) hx ∙ left p n w ∙ ap
     right p q e = simp expand (omega (arith, sums))
 
 -- past the end
-nothing : (x o p w k t a : ℤ) → x ≡ pos 0 → o ≡ pos 0 → p ≡ pos 0 → x *ℤ w ≡ (o *ℤ k -ℤ t *ℤ p) *ℤ a
+pub nothing : (x o p w k t a : ℤ) → x ≡ pos 0 → o ≡ pos 0 → p ≡ pos 0 → x *ℤ w ≡ (o *ℤ k -ℤ t *ℤ p) *ℤ a
 nothing x o p w k t a hx ho hp = ap (λ z. z *ℤ w) hx ∙ none w k t a ∙ (λ i. (sym ho i *ℤ k -ℤ t *ℤ sym hp i) *ℤ a)
   where
     none : (w k t a : ℤ) → pos 0 *ℤ w ≡ (pos 0 *ℤ k -ℤ t *ℤ pos 0) *ℤ a

@@ -101,8 +101,7 @@ pub record IsPutOver (old : List ℤ) (d n e : ℤ) (count : ℕ) (new : List �
   pub right : number_at new count ≡ part *ℤ n
 
 -- what a row step over d makes of numbers of at most b, and of at most p in the pivot row, isn't too wide for m, nor
--- is its denominator r before it is reduced
-pub record StepFits (m d k t : ℤ) (b p : ℕ) (r : ℤ) : Type 0 where
+-- is its denominator before it is reduced
+pub record StepFits (m d k t : ℤ) (b p : ℕ) : Type 0 where
   pub fits : b * unsigned_abs k + unsigned_abs t * p ≤ unsigned_abs m
-  pub under : r ≡ d *ℤ k
-  pub small : unsigned_abs r ≤ unsigned_abs m
+  pub small : unsigned_abs (d *ℤ k) ≤ unsigned_abs m

@@ -1,11 +1,11 @@
 //! What a row step takes of the pivot row, and whether it fits.
 
-ghost use Rattle.std.specs.Prelude.{◌≡◌, pos, ◌*ℤ◌, ◌<ℤ◌, IfSome};
+ghost use Rattle.std.specs.Prelude.{◌≡◌, ◌≤◌, ◌+◌, ◌*◌, pos, ◌*ℤ◌, ◌<ℤ◌, unsigned_abs, true, IfSome};
 ghost use Rattle.stack_rational.specs.Laws.{widest};
 ghost use Rattle.stack_rows.specs.RowForm.{StepFits};
 
 use crate::divider::Divider;
-use crate::words::{size_product, whole_product};
+use crate::words::size_product;
 use num_traits::CheckedAdd;
 use stack_rational::divisor_of;
 
@@ -39,17 +39,26 @@ pub fn factors_of(number: i128, pivot_under: Divider) -> Option<Factors>
     Some(Factors { times, less })
 }
 
-/// The denominator of a row after a step, before what all have in common is taken out: it fits, and so does all that
-/// the step makes of numbers of at most these sizes. Gives up where one of these doesn't.
-pub fn step_under(under: i128, factors: Factors, own: u128, pivot: u128) -> Option<i128>
-    ensures { IfSome result (λ r. StepFits widest under factors.times factors.less own pivot r) }
+/// The greatest size of what a step makes of numbers of at most these sizes, and of the row's denominator then, before
+/// what all have in common is taken out. Gives up where one doesn't fit.
+fn most_of(under: i128, factors: Factors, own: u128, pivot: u128) -> Option<u128>
+    ensures numbers { IfSome result (λ r. own * unsigned_abs factors.times + unsigned_abs factors.less * pivot ≤ r) }
+    ensures under { IfSome result (λ r. unsigned_abs (under *ℤ factors.times) ≤ r) }
 {
     let left = size_product(own, factors.times.unsigned_abs())?;
     let right = size_product(factors.less.unsigned_abs(), pivot)?;
     let most = CheckedAdd::checked_add(&left, &right)?;
-    let over = whole_product(under, factors.times)?;
-    if WIDEST < most || WIDEST < over.unsigned_abs() {
-        return None;
+    let over = size_product(under.unsigned_abs(), factors.times.unsigned_abs())?;
+    if most < over { Some(over) } else { Some(most) }
+}
+
+/// Whether all fits that a step makes of numbers of at most these sizes, and the row's denominator then. The answer no
+/// isn't pinned.
+pub fn step_fits(under: i128, factors: Factors, own: u128, pivot: u128) -> bool
+    ensures { result ≡ true → StepFits widest under factors.times factors.less own pivot }
+{
+    match most_of(under, factors, own, pivot) {
+        Some(most) => most <= WIDEST,
+        None => false,
     }
-    Some(over)
 }

@@ -20,8 +20,8 @@ pub fn find_jumps(row: &[i128], jumps: &mut [u16])
     }
 }
 
-/// The lesser of two places.
-fn lesser(a: u16, b: u16) -> u16
+/// The earlier of two places.
+fn earlier(a: u16, b: u16) -> u16
     ensures { result ≡ min a b }
 {
     if a < b { a } else { b }
@@ -35,6 +35,6 @@ pub fn join_jumps(jumps: &mut [u16], other: &[u16])
         ≡ min (get_or jumps.old j 0) (get_or other.now j 0) }
 {
     for j in 0..jumps.len() {
-        jumps[j] = lesser(jumps[j], other[j]);
+        jumps[j] = earlier(jumps[j], other[j]);
     }
 }

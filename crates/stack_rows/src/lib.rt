@@ -11,18 +11,21 @@
 
 mod divider;
 mod factors;
+mod guesses;
 mod jumps;
 mod ratios;
+mod remaking;
 mod row;
-mod step;
+mod stepping;
 mod sums;
+mod taking;
+mod ways;
 mod words;
 
 pub use divider::Divider;
-pub use factors::{Factors, factors_of, step_under};
-pub use jumps::find_jumps;
+pub use factors::{Factors, factors_of, step_fits};
 pub use ratios::{Ratios, compare};
+pub use remaking::{Cells, remake_row};
 pub use row::Row;
-pub use step::PlainStep;
-pub use sums::CheckSums;
-pub use words::{product, product_of, size_product, whole_product, word};
+pub use ways::SmallStep;
+pub use words::{SMALL, product, product_of, size_product, whole_product, word};

@@ -35,7 +35,7 @@ fn stepped(sum: i128, pivot: i128, k: i128, t: i128) -> i128 {
 }
 
 /// A divisor of a number and of a word above 0: by what is left of y, times 2^64, by the odd part of g.
-fn lesser(y: i128, g: i64, twos: u32, inverse: i64) -> i128 {
+fn common_by_rest(y: i128, g: i64, twos: u32, inverse: i64) -> i128 {
     let odd = g.wrapping_shr(twos).cast_unsigned();
     let product = low(y).wrapping_mul(inverse).cast_unsigned();
     let high = u128::from(product)
@@ -52,26 +52,26 @@ fn lesser(y: i128, g: i64, twos: u32, inverse: i64) -> i128 {
 }
 
 /// A divisor of a number and of a word above 0: this itself, if it goes into the number.
-fn narrowed_word(y: i128, g: i64) -> i128 {
+fn common_with_word(y: i128, g: i64) -> i128 {
     let twos = g.trailing_zeros();
     let inverse = word_inverse(g.wrapping_shr(twos));
     let quotient = low(y).wrapping_mul(inverse).wrapping_shr(twos);
     if product_of(quotient, g) == y {
         g as i128
     } else {
-        lesser(y, g, twos, inverse)
+        common_by_rest(y, g, twos, inverse)
     }
 }
 
 /// A divisor of a number and of another one above 0.
-pub fn narrowed(y: i128, g: i128) -> i128 {
+pub fn common_with(y: i128, g: i128) -> i128 {
     if y == 0 || g == 1 {
         return g;
     }
     if g > GREATEST {
         return divisor_of(y.unsigned_abs(), g.unsigned_abs()).cast_signed();
     }
-    narrowed_word(y, low(g))
+    common_with_word(y, low(g))
 }
 
 impl CheckSums {
@@ -123,11 +123,11 @@ impl CheckSums {
     }
 
     /// A divisor of another number, which should go into all numbers of the row.
-    pub fn narrowed(self, common: i128) -> i128 {
-        let common = narrowed(self.first, common);
-        let common = narrowed(self.second, common);
-        let common = narrowed(self.third, common);
-        narrowed(self.fourth, common)
+    pub fn common_with(self, common: i128) -> i128 {
+        let common = common_with(self.first, common);
+        let common = common_with(self.second, common);
+        let common = common_with(self.third, common);
+        common_with(self.fourth, common)
     }
 
     /// The sums of a row that is divided.

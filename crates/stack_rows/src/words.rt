@@ -7,6 +7,9 @@ use num_traits::CheckedMul;
 /// The last 64 bits, each of them on.
 const LAST_BITS: u128 = u64::MAX as u128;
 
+/// Below this size a number is small: two of these together are a word.
+pub const SMALL: u128 = 1 << 62;
+
 /// The last 64 bits of a number.
 pub fn low(n: i128) -> i64 {
     ((n.cast_unsigned() & LAST_BITS) as u64).cast_signed()
@@ -32,6 +35,13 @@ pub fn product_of(a: i64, b: i64) -> i128
     ensures { result ≡ a *ℤ b }
 {
     a as i128 * b as i128
+}
+
+/// The product of two sizes of 64 bits: it fits.
+pub fn size_product_of(a: u64, b: u64) -> u128
+    ensures { result ≡ a * b }
+{
+    u128::from(a) * u128::from(b)
 }
 
 /// The product of a number and a word, quicker where both are words. Gives up where it doesn't fit.

@@ -7,7 +7,7 @@ use Rattle.stack_inverse.proofs.filling.put_first_rows.Given as goal
 abbrev pub invariant-loop-i : goal.invariant-loop-i
 invariant-loop-i l = record {
   widths : HaveWidths (length l.right) (seen_at l.rows);
-  unmarked : (k : ℕ) → (seen_at l.rows k).fits ≡ false;
+  unfit : (k : ℕ) → (seen_at l.rows k).fits ≡ false;
   rest : l.rest ≡ less_loads l.right l.i;
   rows : (k : ℕ) → k < l.i → IsFirstRow (length l.right) (seen_at l.rows) k (load_at l.right k);
 }

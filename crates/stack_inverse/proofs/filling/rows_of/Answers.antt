@@ -13,6 +13,6 @@ loop-preserved c =
       height = ap length grown ∙ length_push c.loop.rows.items _ ∙ ap (λ n. n + 1) i.height;
       widths = grown_by seen_of no_row (λ (k : ℕ) (s : RowSeen). length s.numbers ≡ c.args.width) c.loop.rows.items
           c.push.new.self.items _ c.loop.counter grown i.height i.widths c.in_ok-row.ensures.width;
-      unmarked = grown_by seen_of no_row (λ (k : ℕ) (s : RowSeen). s.fits ≡ false) c.loop.rows.items
-          c.push.new.self.items _ c.loop.counter grown i.height i.unmarked refl;
+      unfit = grown_by seen_of no_row (λ (k : ℕ) (s : RowSeen). s.fits ≡ false) c.loop.rows.items
+          c.push.new.self.items _ c.loop.counter grown i.height i.unfit refl;
     }

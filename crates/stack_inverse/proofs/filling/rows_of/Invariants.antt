@@ -6,5 +6,5 @@ abbrev pub invariant-loop : goal.invariant-loop
 invariant-loop l = record {
   height : length l.rows.items ≡ l.counter;
   widths : (k : ℕ) → k < l.counter → length (seen_at l.rows.items k).numbers ≡ l.width;
-  unmarked : (k : ℕ) → k < l.counter → (seen_at l.rows.items k).fits ≡ false;
+  unfit : (k : ℕ) → k < l.counter → (seen_at l.rows.items k).fits ≡ false;
 }

@@ -46,7 +46,7 @@ returns-in_ok-sum_words c =
     let fits : SFits w128 c.in_ok-sum_words.field-0 = search rules in
     let whole : c.in_ok-sum_words.field-0 ≡ sum_of (λ x. number_at xs x.row *ℤ x.value) cells =
     c.in_ok-sum_words.ensures.wrapped ∙ narrow_sum f.rows f.top f.columns.items f.first
-    c.if-given-le-NARROW.true xs row.top topped c.if-row.true c.args.j c.requires cells (lent at)
+    c.if-given-le-SMALL.true xs row.top topped c.if-row.true c.args.j c.requires cells (lent at)
     c.in_ok-sum_words.ensures.below in
     added_is c.checked_add.result _ _ _ c.checked_add.ensures
     (ap (λ z. to_z w128 (of_z w128 c.in_ok-own.own) +ℤ z) (to_z-of_z fits ∙ whole) ∙ made at)

@@ -18,17 +18,17 @@ loop-cell-preserved c =
     let x = get_or c.args.cells.now k d in
     let f = λ (x : Cell). number_at xs x.row *ℤ x.value in
     let sum = to_z w128 c.loop-cell.sum-bits in
-    let fits : SFits w128 c.word_product-sum.result = search rules in
+    let fits : SFits w128 c.product_of_word-sum.result = search rules in
     let number : SFits w128 (number_at xs x.row) = search rules in
     let value : SFits w64 x.value = search rules in
-    let product : c.word_product-sum.result ≡ f x = cc (
+    let product : c.product_of_word-sum.result ≡ f x = cc (
       to_z-of_z number,
       to_z-of_z value,
-      c.word_product-sum.ensures,
+      c.product_of_word-sum.ensures,
     ) in
     let bound : suc x.row < length xs = omega (arith, c.if-cell-count.false, c.in_ok-count.ensures) in (
       one_wrapped f c.args.cells.now k d sum _ _ c.loop-cell-test.true (wrapping_add_onto w128 c.loop-cell.sum-bits
-          c.word_product-sum.result c.loop-cell.auto.sum.fits fits ∙ ap (λ z. int_wrap w128 (sum +ℤ z)) product)
+          c.product_of_word-sum.result c.loop-cell.auto.sum.fits fits ∙ ap (λ z. int_wrap w128 (sum +ℤ z)) product)
           c.loop-cell.invariant.0,
       AllWithin-more (λ x. suc x.row < length xs) c.args.cells.now 0 k c.loop-cell.invariant.1 (λ e.
           subst (λ y. suc y.row < length xs) (get_or_default c.args.cells.now k d e c.loop-cell-test.true) bound),

@@ -1,7 +1,7 @@
 use Rattle.std.proofs.Common.{sym, ap, subst, ◌∙◌, suc, arith, rules, SFits, to_z-of_z}
-use Rattle.stack_rational.proofs.Common.{w128, widest}
+use Rattle.stack_rational.proofs.Common.{w128, widest, ℕ_discrete}
 use Rattle.stack_rows.specs.RowForm.{number_at}
-use Rattle.stack_inverse.specs.RowBlock.{IsDividedRow, IsPivotedCells, AreMarked}
+use Rattle.stack_inverse.specs.RowBlock.{IsDividedRow, IsPivotedCells, AreFitting}
 use Rattle.stack_inverse.specs.Columns.{RowSeen}
 use Rattle.stack_inverse.specs.RowsSeen.{seen_at, number_in_row, cell_in_row, pivot_cell, columns_of, cells_of_rows}
 use Rattle.stack_inverse.proofs.PutRow.{seen_index, seen_past, widths_put}
@@ -22,6 +22,13 @@ pub returns-in-Ok-clause-widths : goal.returns-in-Ok-clause-widths
 returns-in-Ok-clause-widths c = widths_put c.args.given.now.first.rows c.put_pivot.ensures c.in-Some.ensures.pivot.width
     c.reduce_others.ensures.widths
 
+pub returns-in-Ok-clause-fit : goal.returns-in-Ok-clause-fit
+returns-in-Ok-clause-fit c = λ k l. elim (ℕ_discrete k c.args.row) [
+  | yes e ↦ ap (λ n. (seen_at c.put_pivot.new.rows n).fits) e ∙ c.put_pivot.ensures.own_fits
+  | no n ↦ ap (λ (s : RowSeen). s.fits) (c.put_pivot.ensures.other k n)
+      ∙ c.in-Ok.ensures.fit k (omega (arith, l)) n
+]
+
 -- the pivot row as its cells were divided
 divided : (c : In-Some) → IsDividedRow widest (cell_in_row c.args.given.now (seen_at c.args.rows.now c.args.row)
     c.args.row) c.args.column (pivot_cell c.args.given.now c.divide.new.pivot)
@@ -35,7 +42,7 @@ both : (c : After-put_pivot) → IsDividedRow widest (cell_in_row c.args.given.n
     IsPivotedCells widest (suc c.args.given.now.first.rows) (columns_of c.args.given.now)
     (cells_of_rows c.args.given.now c.args.rows.now) c.args.row c.args.column
     (cells_of_rows c.args.given.now c.put_pivot.new.rows)
-    × AreMarked widest (cells_of_rows c.args.given.now c.put_pivot.new.rows) (seen_at c.put_pivot.new.rows)
+    × AreFitting widest (cells_of_rows c.args.given.now c.put_pivot.new.rows) (seen_at c.put_pivot.new.rows)
 both c d =
     let p = c.args.given.now in
     let f = p.first in
@@ -46,8 +53,8 @@ both c d =
     (λ k l. seen_past c.reduce_others.new.rows (suc f.rows) k (c.reduce_others.auto.rows ∙ c.requires.height)
     (omega (arith, l))) c.put_pivot.ensures c.in-Ok.ensures.ok
 
-pub returns-in-Ok-clause-marked : goal.returns-in-Ok-clause-marked
-returns-in-Ok-clause-marked c = let p = goal.at.returns-in-Ok-clause-marked c in
+pub returns-in-Ok-clause-fitting : goal.returns-in-Ok-clause-fitting
+returns-in-Ok-clause-fitting c = let p = goal.at.returns-in-Ok-clause-fitting c in
     (both p.After-put_pivot (divided p.In-Some)).1
 
 pub returns-in-Ok-clause-ok : goal.returns-in-Ok-clause-ok

@@ -1,16 +1,45 @@
-use Rattle.std.proofs.Common.{◌≡◌, sym, ap, subst, ◌∙◌, ℕ, ◌≤◌, ◌<◌, suc, length, slice_index_or, arith, rules, SFits}
-use Rattle.std.proofs.Common.{to_z, of_z, to_z-of_z, true, false}
-use Rattle.stack_rational.proofs.Common.{w128, ordered_fractions, is_too_wide, widest}
+use Rattle.std.proofs.Common.{◌≡◌, refl, sym, ap, subst, ◌∙◌, ℕ, ◌+◌, ◌≤◌, ◌<◌, suc, List, length, length-set}
+use Rattle.std.proofs.Common.{slice_index_or, arith, rules, SFits, to_z, of_z, to_z-of_z, Bool, true, false, ℤ, pos}
+use Rattle.std.proofs.Common.{inl, inr}
+use Rattle.std.proofs.lemmas.Bool.{cases_lt}
+use Rattle.stack_rational.proofs.Common.{w128, ordered_fractions, is_too_wide, widest, is_zero_whole}
 use Rattle.stack_table.specs.Spots.{reduce_spot}
 use Rattle.stack_rows.specs.RowForm.{number_at}
-use Rattle.stack_inverse.specs.RowBlock.{AllNumbersFit, IsReducedRow}
+use Rattle.stack_inverse.specs.RowBlock.{AllNumbersFit, AreFitting, IsReducedRow}
 use Rattle.stack_inverse.specs.CellSteps.{TellsSpot}
-use Rattle.stack_inverse.specs.Columns.{RowSeen}
+use Rattle.stack_inverse.specs.declared.given.Given.{Given}
+use Rattle.stack_inverse.specs.declared.row.TableRow.{TableRow}
+use Rattle.stack_inverse.specs.declared.row.PivotRow.{PivotRow}
+use Rattle.stack_inverse.specs.Columns.{RowSeen, AreEntered, revised_own}
+use Rattle.stack_inverse.specs.Marks.{mark_in}
+use Rattle.stack_inverse.proofs.Steps.{row_stays}
 use Rattle.stack_inverse.specs.RowsSeen.{seen_of, seen_at, number_in_row, cell_in_row, cells_of_rows, columns_of}
 use Rattle.stack_inverse.specs.RowsSeen.{pivot_cell}
-use Rattle.stack_inverse.proofs.PutRow.{seen_index, widths_set, done_set, left_set, marked_set}
+use Rattle.stack_inverse.proofs.PutRow.{seen_index, widths_set, done_set, left_set, fitting_set, under_positive}
 use Rattle.stack_inverse.proofs.pivoting.reduce_others.Goals as goal
 use Rattle.stack_inverse.proofs.pivoting.reduce_others.Goals.{After-index-rows-i}
+
+-- a row that is known to fit stays where its number in the column is 0
+stays : (p : Given) (rows : List TableRow) (q : PivotRow) (k column : ℕ) → (seen_at rows k).fits ≡ true →
+    AreFitting widest (cells_of_rows p rows) (seen_at rows) → number_in_row p (seen_at rows k) k column ≡ pos 0 →
+    IsReducedRow widest (columns_of p) (cells_of_rows p rows k) (pivot_cell p q) k column
+    (cell_in_row p (seen_at rows k) k)
+stays p rows q k column f fitting z = row_stays p.first.rows p.first.columns.items
+    (revised_own p.first.rows p.own.items k) (seen_at rows k).numbers (seen_at rows k).under (under_positive rows k)
+    (pivot_cell p q) k column (columns_of p) (fitting k f) (ap is_zero_whole z)
+
+-- so do rows that are passed over
+passed : (p : Given) (rows : List TableRow) (q : PivotRow) (entered : List ℤ) (touched : List ℕ) (all_fit : Bool)
+    (k column : ℕ) → k ≤ p.first.rows → AreFitting widest (cells_of_rows p rows) (seen_at rows) →
+    AreEntered p.first.rows p.first.columns.items p.own.items (seen_at rows) column entered →
+    ((i : ℕ) → i ≤ p.first.rows → mark_in touched i ≡ 0 → number_at entered i ≡ pos 0) →
+    (all_fit ≡ true → (i : ℕ) → i ≤ p.first.rows → (seen_at rows i).fits ≡ true) →
+    (all_fit ≡ true) × (mark_in touched k ≡ 0) → ((seen_at rows k).fits ≡ true)
+    × IsReducedRow widest (columns_of p) (cells_of_rows p rows k) (pivot_cell p q) k column
+    (cell_in_row p (seen_at rows k) k)
+passed p rows q entered touched all_fit k column l fitting is told fit h =
+    let f = fit h.0 k l in
+    (f, stays p rows q k column f fitting (sym (is k l) ∙ told k l h.1))
 
 -- the row that is lent
 module _ (c : After-index-rows-i) where
@@ -18,7 +47,7 @@ module _ (c : After-index-rows-i) where
   lent = seen_of (slice_index_or c.loop-i.rows c.loop-i.i c.index-rows-i.result)
 
   inside : c.loop-i.i < length c.loop-i.rows
-  inside = omega (arith, c.loop-i-test.true, c.loop-i.auto.rows, c.loop-i.auto.i-end)
+  inside = c.loop-i-test.true
 
   in_height : c.loop-i.i ≤ c.args.given.now.first.rows
   in_height = omega (arith, inside, c.loop-i.auto.rows, c.requires.height)
@@ -41,13 +70,51 @@ module _ (c : After-index-rows-i) where
   number_is fits = to_z-of_z fits ∙ c.requires.entered c.loop-i.i in_height
       ∙ ap (λ (s : RowSeen). number_in_row c.args.given.now s c.loop-i.i c.args.column) (sym is_left)
 
+pub loop-i-init : goal.loop-i-init
+loop-i-init c =
+    let p = c.args.given.now in
+    let rows = c.args.rows.now in
+    let next = c.next_row-i.ensures in
+    let passes = λ (k : ℕ) (l : k < c.next_row-i.result). passed p rows c.args.pivot.now c.args.entered.now
+    c.args.touched.now.words.items c.args.all_fit k c.args.column (omega (arith, l, next.within, c.requires.height))
+    c.requires.fitting c.requires.entered c.requires.touched c.requires.all_fit (next.none k (omega arith) l) in
+    record {
+      within = next.within;
+      widths = c.requires.widths;
+      left = λ k l. refl;
+      fitting = c.requires.fitting;
+      fit = λ k l d. (passes k l).0;
+      done = λ k l d. (passes k l).1;
+    }
+
 pub loop-i-preserved-then-i-row : goal.loop-i-preserved-then-i-row
-loop-i-preserved-then-i-row c = record {
-  widths = c.loop-i.invariant.widths;
-  left = λ k l. c.loop-i.invariant.left k (omega (arith, l));
-  marked = c.loop-i.invariant.marked;
-  done = λ k l d. c.loop-i.invariant.done k (omega (arith, l, d, c.if-i-row.true)) d;
-}
+loop-i-preserved-then-i-row c =
+    let p = c.args.given.now in
+    let first = c.args.rows.now in
+    let i = c.loop-i.i in
+    let inv = c.loop-i.invariant in
+    let next = c.next_row-i-then-i-row.ensures in
+    let passes = λ (k : ℕ) (b : i + 1 ≤ k) (l : k < c.next_row-i-then-i-row.result). passed p first c.args.pivot.now
+    c.args.entered.now c.args.touched.now.words.items c.args.all_fit k c.args.column
+    (omega (arith, l, next.within, c.loop-i.auto.rows, c.requires.height)) c.requires.fitting c.requires.entered
+    c.requires.touched c.requires.all_fit (next.none k b l) in
+    record {
+      within = next.within;
+      widths = inv.widths;
+      left = λ k l. inv.left k (omega (arith, l, next.later));
+      fitting = inv.fitting;
+      fit = λ k l d. elim (cases_lt k i) [
+        | inl b ↦ inv.fit k b d
+        | inr b ↦ ap (λ (s : RowSeen). s.fits) (inv.left k b)
+            ∙ (passes k (omega (arith, b, d, c.if-i-row.true)) l).0
+      ];
+      done = λ k l d. elim (cases_lt k i) [
+        | inl b ↦ inv.done k b d
+        | inr b ↦ subst (λ (s : RowSeen). IsReducedRow widest (columns_of p) (cells_of_rows p first k)
+            (pivot_cell p c.args.pivot.now) k c.args.column (cell_in_row p s k)) (sym (inv.left k b))
+            (passes k (omega (arith, b, d, c.if-i-row.true)) l).1
+      ];
+    }
 
 pub reduce-requires-clause-width : goal.reduce-requires-clause-width
 reduce-requires-clause-width c = is_wide (goal.at.reduce-requires-clause-width c).After-index-rows-i
@@ -56,24 +123,40 @@ pub loop-i-preserved : goal.loop-i-preserved
 loop-i-preserved c =
     let at = (goal.at.loop-i-preserved c).After-index-rows-i in
     let p = c.args.given.now in
+    let first = c.args.rows.now in
     let rows = c.loop-i.rows in
     let i = c.loop-i.i in
     let new = c.reduce.new.row in
+    let inv = c.loop-i.invariant in
+    let next = c.next_row-i-in-loop-i.ensures in
+    let passes = λ (k : ℕ) (b : i + 1 ≤ k) (l : k < c.next_row-i-in-loop-i.result). passed p first c.args.pivot.now
+    c.args.entered.now c.args.touched.now.words.items c.args.all_fit k c.args.column
+    (omega (arith, l, next.within, c.loop-i.auto.rows, length-set rows i new, c.requires.height)) c.requires.fitting
+    c.requires.entered c.requires.touched c.requires.all_fit (next.none k b l) in
+    let left = left_set rows i new (inside at) (seen_at first) inv.left in
     let fits : SFits w128 (number_at c.args.entered.now i) = search rules in
     let here = c.in-Ok.ensures.ok c.args.column (number_is at fits)
     (subst (λ (s : RowSeen). s.fits ≡ true → AllNumbersFit widest (cell_in_row p s i)) (sym (is_there at))
-    (c.loop-i.invariant.marked i)) in
+    (c.loop-i.invariant.fitting i)) in
     record {
-      widths = widths_set rows i new (inside at) p.first.rows c.loop-i.invariant.widths
-          (c.reduce.ensures.width ∙ is_wide at);
-      left = left_set rows i new (inside at) (seen_at c.args.rows.now) c.loop-i.invariant.left;
-      marked = marked_set rows i new (inside at) widest (λ (k : ℕ) (s : RowSeen). cell_in_row p s k)
-          c.loop-i.invariant.marked (λ _. here.fits);
-      done = λ k l d. done_set rows i new (inside at) (λ (k : ℕ) (s : RowSeen). IsReducedRow widest (columns_of p)
-          (cells_of_rows p c.args.rows.now k) (pivot_cell p c.args.pivot.now) k c.args.column (cell_in_row p s k))
-          c.args.row c.loop-i.invariant.done (subst (λ (s : RowSeen). IsReducedRow widest (columns_of p)
-          (cell_in_row p s i) (pivot_cell p c.args.pivot.now) i c.args.column (cell_in_row p (seen_of new) i))
-          (is_left at) here) k l d;
+      within = next.within;
+      widths = widths_set rows i new (inside at) p.first.rows inv.widths (c.reduce.ensures.width ∙ is_wide at);
+      left = λ k l. left k (omega (arith, l, next.later));
+      fitting = fitting_set rows i new (inside at) widest (λ (k : ℕ) (s : RowSeen). cell_in_row p s k) inv.fitting
+          (λ _. here.fits);
+      fit = λ k l d. elim (cases_lt k (i + 1)) [
+        | inl b ↦ done_set rows i new (inside at) (λ (k : ℕ) (s : RowSeen). s.fits ≡ true) c.args.row inv.fit
+            c.in-Ok.ensures.fitting k b d
+        | inr b ↦ ap (λ (s : RowSeen). s.fits) (left k b) ∙ (passes k b l).0
+      ];
+      done = λ k l d. elim (cases_lt k (i + 1)) [
+        | inl b ↦ done_set rows i new (inside at) (λ (k : ℕ) (s : RowSeen). IsReducedRow widest (columns_of p)
+            (cells_of_rows p first k) (pivot_cell p c.args.pivot.now) k c.args.column (cell_in_row p s k)) c.args.row
+            inv.done (subst (λ (s : RowSeen). IsReducedRow widest (columns_of p) (cell_in_row p s i)
+            (pivot_cell p c.args.pivot.now) i c.args.column (cell_in_row p (seen_of new) i)) (is_left at) here) k b d
+        | inr b ↦ subst (λ (s : RowSeen). IsReducedRow widest (columns_of p) (cells_of_rows p first k)
+            (pivot_cell p c.args.pivot.now) k c.args.column (cell_in_row p s k)) (sym (left k b)) (passes k b l).1
+      ];
     }
 
 pub returns-in-Err-clause-widths : goal.returns-in-Err-clause-widths
@@ -82,12 +165,12 @@ returns-in-Err-clause-widths c =
     widths_set c.loop-i.rows c.loop-i.i c.reduce.new.row (inside at) c.args.given.now.first.rows
     c.loop-i.invariant.widths (c.reduce.ensures.width ∙ is_wide at)
 
-pub returns-in-Err-clause-marked : goal.returns-in-Err-clause-marked
-returns-in-Err-clause-marked c =
-    let at = (goal.at.returns-in-Err-clause-marked c).After-index-rows-i in
-    marked_set c.loop-i.rows c.loop-i.i c.reduce.new.row (inside at) widest
-    (λ (k : ℕ) (s : RowSeen). cell_in_row c.args.given.now s k) c.loop-i.invariant.marked
-    (λ d. let b : false ≡ true = sym c.in-Err.ensures.unmarked ∙ d in absurd cc)
+pub returns-in-Err-clause-fitting : goal.returns-in-Err-clause-fitting
+returns-in-Err-clause-fitting c =
+    let at = (goal.at.returns-in-Err-clause-fitting c).After-index-rows-i in
+    fitting_set c.loop-i.rows c.loop-i.i c.reduce.new.row (inside at) widest
+    (λ (k : ℕ) (s : RowSeen). cell_in_row c.args.given.now s k) c.loop-i.invariant.fitting
+    (λ d. let b : false ≡ true = sym c.in-Err.ensures.unfit ∙ d in absurd cc)
 
 pub returns-in-Err-clause-refused : goal.returns-in-Err-clause-refused
 returns-in-Err-clause-refused c =
@@ -108,4 +191,8 @@ returns-in-Err-clause-refused c =
 
 pub returns-clause-ok : goal.returns-clause-ok
 returns-clause-ok c = λ k l d. c.loop-i.invariant.done k
-    (omega (arith, l, c.loop-i-test.false, c.loop-i.auto.rows, c.loop-i.auto.i-end, c.requires.height)) d
+    (omega (arith, l, c.loop-i-test.false, c.loop-i.auto.rows, c.requires.height)) d
+
+pub returns-clause-fit : goal.returns-clause-fit
+returns-clause-fit c = λ k l d. c.loop-i.invariant.fit k
+    (omega (arith, l, c.loop-i-test.false, c.loop-i.auto.rows, c.requires.height)) d

@@ -40,9 +40,9 @@ returns-in-Some-take-clause-ok c = λ column hf.
     row_by_tops f.rows f.columns.items (revised_own f.rows p.own.items c.args.i) r.numbers.items r.under r.positive
     new.numbers.items q.numbers.items new.under q.under k.times k.less c.args.number column q.positive
     c.in-Some.ensures.some hf (rw (to_z-of_z c.ranges.number, c.requires.divider) at c.in-Some.ensures.cross)
-    (rw (c.over_for.ensures.numbers, c.over_for.ensures.under) at c.in-Some-take.ensures.ok) f.top own.result
+    (rw (c.fits_for.ensures.numbers, c.fits_for.ensures.under) at c.in-Some-take.ensures.ok) f.top own.result
     c.args.pivot.now.whole_top f.first (rw own.ensures (own_below f.rows p.own.items p.own_top p.within c.args.i))
-    c.args.i (columns_of p) c.in-Some-over_for.ensures.fits c.requires.pivot.within
+    c.args.i (columns_of p) (c.fits_for.ensures.fits c.if-fits_for.true) c.requires.pivot.within
 
 pub returns-in-Ok-clause-ok : goal.returns-in-Ok-clause-ok
 returns-in-Ok-clause-ok c = λ column hf.
@@ -50,7 +50,7 @@ returns-in-Ok-clause-ok c = λ column hf.
     let r = c.args.row.now.row in
     let q = c.args.pivot.now.row in
     let new = c.step_by_cells.new.row.row in
-    let same = c.over_for.ensures in
+    let same = c.fits_for.ensures in
     let own : SFits w128 r.under = search rules in
     let other : SFits w128 q.under = search rules in
     row_by_cells p.first.rows p.first.columns.items (revised_own p.first.rows p.own.items c.args.i) r.numbers.items
@@ -63,21 +63,21 @@ pub returns-in-Err-clause-refused : goal.returns-in-Err-clause-refused
 returns-in-Err-clause-refused c = λ column hf.
     let r = c.args.row.now.row in
     let own : SFits w128 r.under = search rules in
-    rw (c.over_for.ensures.numbers, c.over_for.ensures.under, to_z-of_z own, to_z-of_z c.ranges.number, hf)
+    rw (c.fits_for.ensures.numbers, c.fits_for.ensures.under, to_z-of_z own, to_z-of_z c.ranges.number, hf)
     at c.in-Err.ensures.refused
 
 pub take_small-requires-clause-width : goal.take_small-requires-clause-width
 take_small-requires-clause-width c = c.requires.pivot.width ∙ sym c.requires.width
 
 pub take-requires : goal.take-requires
-take-requires c = rw c.over_for.ensures.numbers (c.requires.pivot.width ∙ sym c.requires.width)
+take-requires c = rw c.fits_for.ensures.numbers (c.requires.pivot.width ∙ sym c.requires.width)
 
 pub step_by_cells-requires-clause-width : goal.step_by_cells-requires-clause-width
-step_by_cells-requires-clause-width c = rw c.over_for.ensures.numbers c.requires.width
+step_by_cells-requires-clause-width c = rw c.fits_for.ensures.numbers c.requires.width
 
 pub step_by_cells-requires-clause-under : goal.step_by_cells-requires-clause-under
 step_by_cells-requires-clause-under c =
-    let own : SFits w128 c.over_for.new.row.under = search rules in
+    let own : SFits w128 c.fits_for.new.row.under = search rules in
     to_z-of_z own
 
 pub step_by_cells-requires-clause-pivot_under : goal.step_by_cells-requires-clause-pivot_under
@@ -86,16 +86,16 @@ step_by_cells-requires-clause-pivot_under c =
     to_z-of_z other
 
 pub returns-in-Some-take-clause-width : goal.returns-in-Some-take-clause-width
-returns-in-Some-take-clause-width c = rw c.over_for.ensures.numbers at c.take.ensures.width
+returns-in-Some-take-clause-width c = rw c.fits_for.ensures.numbers at c.take.ensures.width
 
 pub returns-in-None-take-clause-width : goal.returns-in-None-take-clause-width
-returns-in-None-take-clause-width c = rw c.over_for.ensures.numbers at c.take.ensures.width
+returns-in-None-take-clause-width c = rw c.fits_for.ensures.numbers at c.take.ensures.width
 
 pub returns-in-None-cell-clause-width : goal.returns-in-None-cell-clause-width
-returns-in-None-cell-clause-width c = ap length c.over_for.ensures.numbers
+returns-in-None-cell-clause-width c = ap length c.fits_for.ensures.numbers
 
 pub returns-in-Ok-clause-width : goal.returns-in-Ok-clause-width
-returns-in-Ok-clause-width c = rw c.over_for.ensures.numbers at c.step_by_cells.ensures.width
+returns-in-Ok-clause-width c = rw c.fits_for.ensures.numbers at c.step_by_cells.ensures.width
 
 pub returns-in-Err-clause-width : goal.returns-in-Err-clause-width
-returns-in-Err-clause-width c = rw c.over_for.ensures.numbers at c.step_by_cells.ensures.width
+returns-in-Err-clause-width c = rw c.fits_for.ensures.numbers at c.step_by_cells.ensures.width

@@ -29,7 +29,7 @@ loop-r-preserved c = elim c.if-row-r-ne0.branch [
       let lu : r < length c.args.uses.now = omega (arith, c.loop-r-test.true, c.requires.uses_long) in
       let put = list_put lists r d new lt w.join.ensures.long w.places-is in
       let both : (j : ℕ) → mark_in new.words.items j ≡ max (mark_in (get_or lists r d).words.items j)
-      (mark_in c.find.new.self.words.items j) = w.join.ensures.joined in
+      (mark_in c.args.touched.now.words.items j) = w.join.ensures.joined in
       let opened : (j : ℕ) → mark_in c.if-row-r-ne0.«open».words.items j ≡ max (mark_in c.loop-r.«open».words.items j)
       (mark_at c.args.uses.now r j) =
       λ j. ap (λ (m : Marks). mark_in m.words.items j) w.open-is ∙ w.join-then-row-r-ne0.ensures.joined j
@@ -41,7 +41,7 @@ loop-r-preserved c = elim c.if-row-r-ne0.branch [
         places_kept = λ k j. put (λ k m. mark_in m j ≡ 0 → mark_at c.args.places.now k j ≡ 0) k
             (λ n. i.places_kept k j) (λ z. i.places_kept r j
             (ap (λ (ws : List ℕ). mark_in ws j) (sym (list_lent lists r d lt)) ∙ omega (arith, z, both j)));
-        joined = λ k j l h. put (λ k m. mark_in m j ≡ 0 → mark_in c.find.new.self.words.items j ≡ 0) k
+        joined = λ k j l h. put (λ k m. mark_in m j ≡ 0 → mark_in c.args.touched.now.words.items j ≡ 0) k
             (λ n. i.joined k j (omega (arith, l, n)) h) (λ z. omega (arith, z, both j));
         marks_kept = λ j z. i.marks_kept j (omega (arith, z, opened j));
         unused = λ k j l h z. elim (ℕ_discrete k r) [
@@ -57,7 +57,7 @@ returns-clause-done c = λ _.
     let i = c.loop-r.invariant in
     record {
       places_kept = i.places_kept;
-      joined = λ r k l n z. c.find.ensures.told k (i.joined r k (omega (arith, l, c.loop-r-test.false)) n z);
+      joined = λ r k l. i.joined r k (omega (arith, l, c.loop-r-test.false));
       marks_kept = i.marks_kept;
       unused = λ r j l. i.unused r j (omega (arith, l, c.loop-r-test.false, c.requires.uses_long));
     }

@@ -20,8 +20,8 @@ put c =
     ∙ written_long s.entered c.clear_row.new.row c.as_mut_slice.ensures.value c.clear_row.auto.row ∙ s.one_number)
     c.put_row.ensures
 
-pub invariant_of-self-3-clause-marked : goal.invariant_of-self-3-clause-marked
-invariant_of-self-3-clause-marked c = (put (goal.at.invariant_of-self-3-clause-marked c).After-put_row).marked
+pub invariant_of-self-3-clause-fitting : goal.invariant_of-self-3-clause-fitting
+invariant_of-self-3-clause-fitting c = (put (goal.at.invariant_of-self-3-clause-fitting c).After-put_row).fitting
 
 pub returns-clause-ok : goal.returns-clause-ok
 returns-clause-ok c =

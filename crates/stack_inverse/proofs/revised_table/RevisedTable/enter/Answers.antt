@@ -1,4 +1,4 @@
-use Rattle.std.proofs.Common.{◌≡◌, sym, ap, subst, subst₂, ◌∙◌, ℕ, ◌<◌, ◌≤◌, List, length, arith, ℤ, pos}
+use Rattle.std.proofs.Common.{◌≡◌, ◌≢◌, sym, ap, subst, subst₂, ◌∙◌, ℕ, ◌<◌, ◌≤◌, List, length, arith, ℤ, pos}
 use Rattle.std.proofs.Common.{unsigned_abs}
 use Rattle.std.specs.List.{AllByRecursion}
 use Rattle.stack_rational.proofs.Common.{widest}
@@ -8,9 +8,9 @@ use Rattle.stack_inverse.specs.declared.marks.Marks.{Marks}
 use Rattle.stack_inverse.specs.declared.row.TableRow.{TableRow}
 use Rattle.stack_inverse.specs.Columns.{cells_at, AreEntered}
 use Rattle.stack_inverse.specs.RowsSeen.{seen_at}
-use Rattle.stack_inverse.specs.Marks.{mark_at}
+use Rattle.stack_inverse.specs.Marks.{mark_in, mark_at}
 use Rattle.stack_inverse.proofs.Entered.{rises_of, cells_below, cells_have}
-use Rattle.stack_inverse.proofs.Made.{cells_of, all_three}
+use Rattle.stack_inverse.proofs.Made.{cells_of, all_four}
 use Rattle.stack_inverse.proofs.PutRow.{written}
 use Rattle.stack_inverse.proofs.revised_table.RevisedTable.enter.Goals as goal
 
@@ -41,6 +41,9 @@ enter_column-requires-clause-nothing c = λ i l z.
     (subst₂ (λ (ls : List Marks) (xs : List Cell). AllByRecursion (λ x. mark_at ls x.row i ≡ 0) xs)
     c.as_slice.ensures.value cells all)
 
+pub enter_column-requires-clause-marks_long : goal.enter_column-requires-clause-marks_long
+enter_column-requires-clause-marks_long c = c.mark_column.ensures.long ∙ c.args.self.now.touched_long
+
 pub returns-clause-entered : goal.returns-clause-entered
 returns-clause-entered c =
     let s = c.args.self.now in
@@ -49,10 +52,13 @@ returns-clause-entered c =
     let rows = c.as_slice-3.ensures.value in
     let is = sym (written s.entered c.enter_column.new.entered c.as_mut_slice.ensures.value
     c.enter_column.auto.entered) in
-    all_three c.enter_column.result told.numbers told.fit told.right_fits (λ numbers fit right_fits. record {
+    all_four c.enter_column.result told.numbers told.fit told.right_fits told.told
+    (λ numbers fit right_fits touched. record {
       numbers = subst₂ (λ (rs : List TableRow) (xs : List ℤ). AreEntered f.rows f.columns.items s.given.own.items
           (seen_at rs) c.args.column xs) rows is numbers;
       fit = subst (λ (xs : List ℤ). (i : ℕ) → i ≤ f.rows → unsigned_abs (number_at xs i) ≤ unsigned_abs widest) is fit;
-      right_fits = subst (λ (rs : List TableRow). (i : ℕ) → i ≤ f.rows →
-          unsigned_abs (number_at (seen_at rs i).numbers f.rows) ≤ unsigned_abs widest) rows right_fits;
+      right_fits = subst₂ (λ (rs : List TableRow) (xs : List ℤ). (i : ℕ) → i ≤ f.rows → number_at xs i ≢ pos 0 →
+          unsigned_abs (number_at (seen_at rs i).numbers f.rows) ≤ unsigned_abs widest) rows is right_fits;
+      touched = subst (λ (xs : List ℤ). (i : ℕ) → i ≤ f.rows → mark_in c.enter_column.new.marks.words.items i ≡ 0 →
+          number_at xs i ≡ pos 0) is touched;
     })

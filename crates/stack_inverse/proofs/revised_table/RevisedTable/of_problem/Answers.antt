@@ -11,7 +11,7 @@ use Rattle.stack_inverse.specs.RowsSeen.{seen_at}
 use Rattle.stack_inverse.specs.FirstTable.{AreFilled}
 use Rattle.stack_inverse.specs.Columns.{RowSeen}
 use Rattle.stack_inverse.specs.RowsSeen.{seen_of, number_in_row}
-use Rattle.stack_inverse.specs.Marks.{IsWide, ArePlaces, AreClean, least_negative}
+use Rattle.stack_inverse.specs.Marks.{HaveWords, ArePlaces, AreClean, least_negative}
 use Rattle.stack_bland.specs.Found.{TellsFound}
 use Rattle.stack_inverse.proofs.PutRow.{written, written_long, seen_past, seen_get}
 use Rattle.stack_inverse.proofs.PlacesKept.{first_told}
@@ -33,7 +33,7 @@ invariant_of-result c =
     c.in_ok-given.ensures.long ∙ sym (λ z. (c.len-3.ensures ∙ P.contact.ok.0) z
     + (ap (λ b. cond b 1 0) c.is_some.ensures ∙ factor_is P.factor) z) in
     let few : G.first.rows ≡ P.rows = c.in_ok-given.ensures.rows in
-    let height = written_long rows new kept c.fill.auto.rows ∙ c.in_ok-rows.ensures.height ∙ c.in_ok-width.ensures
+    let height = written_long rows new kept c.fill.auto.rows ∙ c.in_ok-rows.ensures.height ∙ c.width_of-width.ensures
     ∙ ap suc (sym few) in
     let last : seen_of c.index.result.now ≡ seen_at (with_items rows new).items G.first.rows =
     seen_get (with_items rows new).items P.rows c.index.result.now (omega (arith, height, few)) c.index.ensures
@@ -45,19 +45,20 @@ invariant_of-result c =
       plain_count = count;
       height = height;
       widths = subst₂ (λ (m : ℕ) (rs : List TableRow). HaveWidths m (seen_at rs)) long is c.in_ok-fill.ensures.widths;
-      marked = λ i e. let b : false ≡ true = sym (subst (λ (rs : List TableRow). (i : ℕ) → (seen_at rs i).fits ≡ false)
-          is c.in_ok-fill.ensures.unmarked i) ∙ e in absurd cc;
-      room = c.in_ok-zeros.ensures.width ∙ c.in_ok-width.ensures ∙ ap suc (sym c.in_ok-given.ensures.rows);
+      fitting = λ i e. let b : false ≡ true = sym (subst (λ (rs : List TableRow). (i : ℕ) → (seen_at rs i).fits ≡ false)
+          is c.in_ok-fill.ensures.unfit i) ∙ e in absurd cc;
+      room = c.in_ok-zeros.ensures.width ∙ c.width_of-width.ensures ∙ ap suc (sym c.in_ok-given.ensures.rows);
       one_number = written_long c.in_ok-entered.entered c.fill.new.numbers c.as_mut_slice-2.ensures.value
           c.fill.auto.numbers ∙ c.in_ok-entered.ensures ∙ tall;
       places_long = c.in_ok-places.ensures.long ∙ sym few;
-      places_wide = subst (λ w. IsWide c.in_ok-places.places.items (suc (w / 64))) tall c.in_ok-places.ensures.wide;
+      places_wide = subst (λ w. HaveWords c.in_ok-places.places.items (suc (w / 64))) tall c.in_ok-places.ensures.wide;
       told = subst₂ (λ (m : ℕ) (rs : List TableRow). ArePlaces c.in_ok-places.places.items m (seen_at rs)) (sym few) is
           (first_told P.rows P.right.items (seen_at new) c.in_ok-places.places.items filled
           c.in_ok-places.ensures.diagonal);
       uses_long = c.in_ok-uses.ensures.long;
       uses_wide = c.in_ok-uses.ensures.wide;
       used = c.in_ok-uses.ensures.uses;
+      each_fits = λ e. let b : false ≡ true = e in absurd cc;
       touched_long = c.in_ok-touched.ensures ∙ ap (λ w. suc (w / 64)) tall;
       open_long = c.least_negative-least.ensures.long ∙ c.fill-2.ensures.long ∙ c.in_ok-open.ensures
           ∙ ap (λ w. suc (w / 64)) (c.len-2.ensures ∙ G.first.columns.ok.0);
@@ -96,7 +97,7 @@ returns-clause-ok c =
     λ i j. (λ z. revised_cell (few z) C G.own.items (seen_at (is z)) i j)
     ∙ first_cell P c.requires C G.own.items (seen_at new) c.in_ok-given.ensures.long c.in_ok-given.ensures.turned
     rising c.in_ok-given.ensures.cells
-    (λ k l. seen_past new (suc P.rows) k (same ∙ c.in_ok-rows.ensures.height ∙ c.in_ok-width.ensures)
+    (λ k l. seen_past new (suc P.rows) k (same ∙ c.in_ok-rows.ensures.height ∙ c.width_of-width.ensures)
     (omega (arith, l))) filled i j in
     let basics = first_basics P c.in_ok-basic.basic.items c.in_ok-basic.ensures.long
     (λ i l. c.in_ok-basic.ensures.each i l

@@ -1,4 +1,4 @@
-use Rattle.std.proofs.Common.{◌≡◌, sym, ap, subst, subst₂, ◌∙◌, ℕ, suc, ◌+◌, ◌<◌, ◌⊎◌, inl, inr, true, false}
+use Rattle.std.proofs.Common.{◌≡◌, sym, ap, subst, subst₂, ◌∙◌, ℕ, suc, ◌+◌, ◌<◌, ◌≤◌, ◌⊎◌, inl, inr, true, false}
 use Rattle.std.proofs.Common.{List, length, get_or, set, length-set, None, OnOk, IfErr, pos, arith}
 use Rattle.std.proofs.lemmas.Result.{on_ok_weaker}
 use Rattle.stack_rational.proofs.Common.{with_items, Fraction, changed, next, ordered_fractions, is_too_wide, widest}
@@ -6,14 +6,15 @@ use Rattle.stack_table.specs.Block.{shape_of}
 use Rattle.stack_table.specs.Table.{Tabled, columns, pivoted_at}
 use Rattle.stack_table.specs.Spots.{cells_spot, pivot_spot}
 use Rattle.stack_inverse.specs.declared.row.TableRow.{TableRow}
-use Rattle.stack_inverse.specs.RowBlock.{IsPivotedCells, AreMarked}
+use Rattle.stack_inverse.specs.RowBlock.{IsPivotedCells, AreFitting}
 use Rattle.stack_inverse.specs.Columns.{RowSeen, HaveWidths}
 use Rattle.stack_inverse.specs.RowsSeen.{seen_at, number_in_row, cells_of_rows, columns_of}
 use Rattle.stack_inverse.specs.Seen.{number_in, under_in, shape_of_revised, table_of_revised}
-use Rattle.stack_inverse.specs.Marks.{IsWide, ArePlaces, AreClean, AreMarkedOn}
+use Rattle.stack_inverse.specs.Marks.{HaveWords, ArePlaces, AreClean, AreMarkedOn}
 use Rattle.stack_inverse.specs.CellSteps.{TellsSpot}
 use Rattle.stack_inverse.proofs.PutRow.{written, written_long, under_positive, seen_get}
 use Rattle.stack_inverse.proofs.PlacesKept.{places_kept, marked_on_same, full_places, full_columns, done_or_not}
+use Rattle.stack_inverse.proofs.PlacesKept.{ok_gives}
 use Rattle.stack_inverse.proofs.OpenColumns.{columns_kept}
 use Rattle.stack_inverse.proofs.Steps.{zero_cell}
 use Rattle.stack_inverse.proofs.LeastNegative.{clean_lent, least_lent}
@@ -45,10 +46,10 @@ invariant_of-self-clause-widths c =
     subst (λ (rs : List TableRow). HaveWidths c.args.self.now.given.first.rows (seen_at rs))
     (sym (rows_are (goal.at.invariant_of-self-clause-widths c).After-pivot_rows-done)) c.pivot_rows-done.ensures.widths
 
-pub invariant_of-self-clause-marked : goal.invariant_of-self-clause-marked
-invariant_of-self-clause-marked c =
-    subst (λ (rs : List TableRow). AreMarked widest (cells_of_rows c.args.self.now.given rs) (seen_at rs))
-    (sym (rows_are (goal.at.invariant_of-self-clause-marked c).After-pivot_rows-done)) c.pivot_rows-done.ensures.marked
+pub invariant_of-self-clause-fitting : goal.invariant_of-self-clause-fitting
+invariant_of-self-clause-fitting c =
+    subst (λ (rs : List TableRow). AreFitting widest (cells_of_rows c.args.self.now.given rs) (seen_at rs))
+    (sym (rows_are (goal.at.invariant_of-self-clause-fitting c).After-pivot_rows-done)) c.pivot_rows-done.ensures.fitting
 
 pub invariant_of-self-clause-basics : goal.invariant_of-self-clause-basics
 invariant_of-self-clause-basics c = length-set c.args.self.now.basic.items c.args.row c.args.column
@@ -116,15 +117,15 @@ places_long : (c : After-mark_on) → length c.mark_on.new.places ≡ c.args.sel
 places_long c = c.mark_on.auto.places ∙ ap length c.as_mut_slice-2.ensures.value ∙ c.args.self.now.places_long
 
 -- where the pivot was done, marks go on
-marked_on : (c : After-mark_on) → c.is_ok.result ≡ true → AreMarkedOn c.args.self.now.places.items
+marked_on : (c : After-mark_on) → c.is_ok-ok.result ≡ true → AreMarkedOn c.args.self.now.places.items
     c.args.self.now.uses.items c.args.self.now.«open».words.items (after c c.args.row).numbers
-    c.args.self.now.entered.items c.mark_on.new.places c.mark_on.new.«open».words.items
+    c.args.self.now.touched.words.items c.mark_on.new.places c.mark_on.new.«open».words.items
 marked_on c e =
     let rows = (with_items c.args.self.now.rows c.pivot_rows-done.new.rows).items in
     let lt : c.args.row < length rows = omega (arith, rows_long c, c.requires.row_in) in
     marked_on_same c.as_mut_slice-2.ensures.value c.as_slice-2.ensures.value
     (c.as_slice-3.ensures.value ∙ ap (λ (x : RowSeen). x.numbers) (seen_get rows c.args.row c.index.result.now lt
-    c.index.ensures)) c.as_slice-4.ensures.value (c.mark_on.ensures.done e)
+    c.index.ensures)) (c.mark_on.ensures.done e)
 
 -- the cells after a pivot that was done
 abbrev Next : (c : After-mark_on) → Type 0
@@ -132,10 +133,10 @@ Next c = (i j : ℕ) → cells_of_rows c.args.self.now.given (with_items c.args.
     c.pivot_rows-done.new.rows).items i j ≡ next ordered_fractions (cells_of_rows c.args.self.now.given
     c.args.self.now.rows.items) c.args.row c.args.column i j
 
-done : (c : After-mark_on) → ((c.is_ok.result ≡ true) × Next c) ⊎ (c.is_ok.result ≡ false)
+done : (c : After-mark_on) → ((c.is_ok-ok.result ≡ true) × Next c) ⊎ (c.is_ok-ok.result ≡ false)
 done c =
     let s = c.args.self.now in
-    done_or_not c.pivot_rows-done.result c.is_ok.result c.is_ok.ensures.value (on_ok_weaker c.pivot_rows-done.result
+    done_or_not c.pivot_rows-done.result c.is_ok-ok.result c.is_ok-ok.ensures.value (on_ok_weaker c.pivot_rows-done.result
     (λ h i j. (λ z. cells_of_rows s.given (written s.rows c.pivot_rows-done.new.rows c.as_mut_slice.ensures.value
     c.pivot_rows-done.auto.rows z) i j) ∙ h.cell i j
     ∙ (λ z. next ordered_fractions (cells_of_rows s.given (c.as_mut_slice.ensures.value z)) c.args.row
@@ -149,8 +150,8 @@ told c =
       | inl p ↦ places_kept m s.given.first.columns.items s.given.own.items (seen_at s.rows.items) (after c) c.args.row
           c.args.column (under_positive s.rows.items)
           (under_positive (with_items s.rows c.pivot_rows-done.new.rows).items) p.1 s.places.items s.uses.items
-          c.mark_on.new.places s.«open».words.items c.mark_on.new.«open».words.items s.entered.items
-          (marked_on c p.0) s.places_long c.requires.entered.numbers s.told
+          c.mark_on.new.places s.«open».words.items c.mark_on.new.«open».words.items s.touched.words.items
+          s.entered.items (marked_on c p.0) s.places_long c.requires.entered.numbers c.requires.entered.touched s.told
       | inr e ↦ full_places m (length s.touched.words.items) c.mark_on.new.places c.mark_on.new.«open».words.items
           (after c) (c.mark_on.ensures.full e) (places_long c) (omega (arith, s.touched_long))
     ]
@@ -166,7 +167,7 @@ clean c =
           c.args.row c.args.column c.requires.row_in (under_positive s.rows.items)
           (under_positive (with_items s.rows c.pivot_rows-done.new.rows).items) s.given.first.first.rising p.1
           s.places.items s.uses.items c.mark_on.new.places s.«open».words.items c.mark_on.new.«open».words.items
-          s.entered.items (marked_on c p.0) s.uses_long s.used s.clean
+          s.touched.words.items (marked_on c p.0) s.uses_long s.used s.clean
       | inr e ↦ full_columns (length s.given.first.columns.items) (length s.touched.words.items) c.mark_on.new.places
           c.mark_on.new.«open».words.items (number_in_row s.given (after c m) m) (c.mark_on.ensures.full e)
           (omega (arith, c.mark_on.ensures.marks, s.open_long))
@@ -196,7 +197,7 @@ invariant_of-self-clause-places_long c =
 pub invariant_of-self-clause-places_wide : goal.invariant_of-self-clause-places_wide
 invariant_of-self-clause-places_wide c =
     let at = (goal.at.invariant_of-self-clause-places_wide c).After-mark_on in
-    subst₂ (λ ls w. IsWide ls w) (sym (places_are at)) c.args.self.now.touched_long c.mark_on.ensures.wide
+    subst₂ (λ ls w. HaveWords ls w) (sym (places_are at)) c.args.self.now.touched_long c.mark_on.ensures.wide
 
 pub invariant_of-self-clause-uses_wide : goal.invariant_of-self-clause-uses_wide
 invariant_of-self-clause-uses_wide c = c.args.self.now.uses_wide
@@ -205,7 +206,23 @@ pub invariant_of-self-clause-used : goal.invariant_of-self-clause-used
 invariant_of-self-clause-used c = c.args.self.now.used
 
 pub invariant_of-self-clause-touched_long : goal.invariant_of-self-clause-touched_long
-invariant_of-self-clause-touched_long c = c.mark_on.ensures.touched ∙ c.args.self.now.touched_long
+invariant_of-self-clause-touched_long c = c.args.self.now.touched_long
+
+pub invariant_of-self-clause-each_fits : goal.invariant_of-self-clause-each_fits
+invariant_of-self-clause-each_fits c =
+    let s = c.args.self.now in
+    let at = (goal.at.invariant_of-self-clause-each_fits c).After-pivot_rows-done in
+    ok_gives c.pivot_rows-done.result c.is_ok-ok.result c.is_ok-ok.ensures.value (on_ok_weaker c.pivot_rows-done.result
+    (λ h. subst (λ (rs : List TableRow). (i : ℕ) → i ≤ s.given.first.rows → (seen_at rs i).fits ≡ true)
+    (sym (rows_are at)) h) c.pivot_rows-done.ensures.fit)
+
+pub pivot_rows-done-requires-clause-touched : goal.pivot_rows-done-requires-clause-touched
+pivot_rows-done-requires-clause-touched c = rw c.as_slice.ensures.value c.requires.entered.touched
+
+pub pivot_rows-done-requires-clause-all_fit : goal.pivot_rows-done-requires-clause-all_fit
+pivot_rows-done-requires-clause-all_fit c =
+    let s = c.args.self.now in
+    rw c.as_mut_slice.ensures.value s.each_fits
 
 pub invariant_of-self-clause-open_long : goal.invariant_of-self-clause-open_long
 invariant_of-self-clause-open_long c = c.least_negative-self.ensures.long ∙ c.mark_on.ensures.marks
@@ -246,10 +263,10 @@ pivot_rows-done-requires-clause-widths c =
     let s = c.args.self.now in
     rw c.as_mut_slice.ensures.value s.widths
 
-pub pivot_rows-done-requires-clause-marked : goal.pivot_rows-done-requires-clause-marked
-pivot_rows-done-requires-clause-marked c =
+pub pivot_rows-done-requires-clause-fitting : goal.pivot_rows-done-requires-clause-fitting
+pivot_rows-done-requires-clause-fitting c =
     let s = c.args.self.now in
-    rw c.as_mut_slice.ensures.value s.marked
+    rw c.as_mut_slice.ensures.value s.fitting
 
 pub pivot_rows-done-requires-clause-entered : goal.pivot_rows-done-requires-clause-entered
 pivot_rows-done-requires-clause-entered c =
@@ -270,11 +287,6 @@ pub mark_on-requires-clause-uses_wide : goal.mark_on-requires-clause-uses_wide
 mark_on-requires-clause-uses_wide c =
     let s = c.args.self.now in
     rw (c.as_slice-2.ensures.value, s.open_long) s.uses_wide
-
-pub mark_on-requires-clause-entered : goal.mark_on-requires-clause-entered
-mark_on-requires-clause-entered c =
-    let s = c.args.self.now in
-    rw (c.as_slice-4.ensures.value, s.one_number, s.touched_long) (omega arith)
 
 pub mark_on-requires-clause-uses_long : goal.mark_on-requires-clause-uses_long
 mark_on-requires-clause-uses_long c =

@@ -43,8 +43,8 @@ invariant_of-self-5-clause-height c = (put (goal.at.invariant_of-self-5-clause-h
 pub invariant_of-self-5-clause-widths : goal.invariant_of-self-5-clause-widths
 invariant_of-self-5-clause-widths c = (put (goal.at.invariant_of-self-5-clause-widths c).After-put_row).widths
 
-pub invariant_of-self-5-clause-marked : goal.invariant_of-self-5-clause-marked
-invariant_of-self-5-clause-marked c = (put (goal.at.invariant_of-self-5-clause-marked c).After-put_row).marked
+pub invariant_of-self-5-clause-fitting : goal.invariant_of-self-5-clause-fitting
+invariant_of-self-5-clause-fitting c = (put (goal.at.invariant_of-self-5-clause-fitting c).After-put_row).fitting
 
 pub returns-clause-ok : goal.returns-clause-ok
 returns-clause-ok c =

@@ -1,8 +1,9 @@
-use Rattle.std.proofs.Common.{◌≡◌, sym, ap, subst, ◌∙◌, ◌+◌, get_or, ◌≤◌, unsigned_abs, arith, rules, SFits, to_z-of_z}
+use Rattle.std.proofs.Common.{◌≡◌, ◌≢◌, sym, ap, subst, ◌∙◌, ◌+◌, get_or, ◌≤◌, unsigned_abs, arith, rules, SFits, to_z-of_z}
 use Rattle.std.proofs.Common.{pos}
-use Rattle.stack_rational.proofs.Common.{w128, sign_of, widest, ◌≺◌, ◌≼◌}
+use Rattle.stack_rational.proofs.Common.{w128, ints, sign_of, widest, ◌≺◌, ◌≼◌}
 use Rattle.stack_table.specs.Table.{columns}
 use Rattle.stack_bland.specs.Choice.{is_plus}
+use Rattle.stack_rows.specs.RowForm.{number_at}
 use Rattle.stack_rows.proofs.RatioSigns.{cell_sign}
 use Rattle.stack_inverse.specs.Columns.{revised_own}
 use Rattle.stack_inverse.specs.RowsSeen.{seen_at}
@@ -36,11 +37,13 @@ returns c =
     let high : pos 0 ≺ c.entered-cell.result = search rules in
     let is : c.entered-cell.result ≡ number_in t i k = c.entered-cell.ensures ∙ c.requires.at_hand.numbers i in_rows in
     let row = seen_at t.rows.items i in
+    let some : number_at t.entered.items i ≢ pos 0 =
+    λ z. absurd (omega (arith, ints, subst (λ n. pos 0 ≺ n) (c.entered-cell.ensures ∙ z) high)) in
     is_ratio (number_in t) (under_in t) (under_positive t.rows.items) (λ i. get_or t.basic.items i 0)
     (shape_of_revised t) k i _ _ (to_z-of_z right ∙ c.right-right.ensures) (to_z-of_z cell ∙ is)
     (subst (λ z. pos 0 ≺ z) is high)
     (subst (λ z. unsigned_abs z ≤ unsigned_abs widest) (sym (right_is m t.given.first.columns.items
     (revised_own m t.given.own.items i) row.numbers row.under (columns (shape_of_revised t)) (ap (λ n. n + m)
-    (sym t.plain_count)))) (c.requires.at_hand.right_fits i in_rows))
+    (sym t.plain_count)))) (c.requires.at_hand.right_fits i in_rows some))
     (subst (λ z. unsigned_abs z ≤ unsigned_abs widest) (sym c.entered-cell.ensures ∙ is)
     (c.requires.at_hand.fit i in_rows))

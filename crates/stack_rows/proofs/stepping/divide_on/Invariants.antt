@@ -1,0 +1,11 @@
+use Rattle.std.proofs.Common.{◌<◌, ◌≤◌}
+use Rattle.stack_rows.specs.RowForm.{IsDividedOn}
+use Rattle.stack_rows.proofs.stepping.divide_on.Given as goal
+
+abbrev pub invariant-loop : goal.invariant-loop
+invariant-loop l = record {
+  begun : l.fn.from ≤ l.j;
+  room : l.j < l.count;
+  divided : IsDividedOn l.fn.numbers l.other l.s.factors.times l.s.factors.less l.s.divider.by l.by l.fn.from l.j
+      l.numbers;
+}
