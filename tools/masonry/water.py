@@ -11,7 +11,7 @@ from masonry.console import Refused, Words
 from masonry.fill import Surface, under
 from masonry.model import Bearing, Model, bearings_of, read
 from masonry.numbers import decimal, number, whole
-from masonry.open_faces import Force, Laid, Piece, Place, Side, across, open_pieces, with_loads
+from masonry.open_faces import Force, Laid, Piece, Place, Side, across, edges, left_over, open_pieces, with_loads
 from masonry.program import answer
 from masonry.units import Scale
 
@@ -58,8 +58,7 @@ def mirror(piece: Piece, x: int, y: int) -> Piece:
 
 def sees_left(model: Model, at: Place) -> bool:
     """Whether no body lies to the left of a place."""
-    return not any(min(y for _, y in body.corners) <= at[1] <= max(y for _, y in body.corners)
-                   and across(body, 1, at[1])[0] < at[0] for body in model.blocks)
+    return not any(first < at[0] for first, _ in spans(model, at[1]))
 
 
 def open_left(model: Model) -> Iterator[tuple[Piece, Force]]:
@@ -69,11 +68,27 @@ def open_left(model: Model) -> Iterator[tuple[Piece, Force]]:
         (ax, ay), (bx, by) = piece.start, piece.end
         yield piece, (float(ay - by), float(bx - ax))
     for way in 1, -1:
-        for piece in open_pieces(mirrored(model, 1, way), Side.UP):
-            level = mirror(piece, 1, way)
-            x, y = level.middle()
-            if level.start[1] == level.end[1] and sees_left(model, (x, y + way * NEAR)):
-                yield level, (0.0, float(-way * (level.start[0] - level.end[0])))
+        for piece in level_pieces(model, way):
+            x, y = piece.middle()
+            if sees_left(model, (x, y + way * NEAR)):
+                yield piece, (0.0, float(-way * (piece.start[0] - piece.end[0])))
+
+
+def spans(model: Model, y: Fraction) -> Iterator[tuple[Fraction, Fraction]]:
+    """From where to where each body reaches at a height."""
+    for body in model.blocks:
+        if min(b for _, b in body.corners) <= y <= max(b for _, b in body.corners):
+            yield across(body, 1, y)
+
+
+def level_pieces(model: Model, way: int) -> Iterator[Piece]:
+    """The parts of level edges of free blocks that face up, or down for -1, and on which no body lies."""
+    for block in model.free_blocks():
+        for (ax, ay), (bx, by) in edges(block):
+            if ay == by and way * (ax - bx) > 0:
+                y, (low, high) = Fraction(ay), sorted((Fraction(ax), Fraction(bx)))
+                for first, last in left_over(low, high, list(spans(model, y + way * NEAR))):
+                    yield Piece(block.name, (last, y), (first, y))
 
 
 def wet(model: Model, water: Water) -> Iterator[Wet]:
@@ -154,8 +169,8 @@ def face_to_face(model: Model, y: Fraction) -> tuple[float, float]:
 
 def westergaard(one: Wet, water: Water) -> Wet | None:
     """The push of the water before a face in an earthquake, after Westergaard (1933): 7/8 times the share, the unit
-    weight and the root of the depth here times the greatest depth. On a piece it is a pressure that goes evenly from one
-    end to the other, with the same sum and the same moment."""
+    weight and the root of the depth here times the greatest depth. On a piece it is a pressure that goes evenly from
+    one end to the other, with the same sum and the same moment."""
     deep = [pressure / water.weight for pressure in one.pressures]
     rise = deep[1] - deep[0]
     if abs(one.along[0]) <= abs(one.along[1]) or rise <= 0:

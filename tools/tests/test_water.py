@@ -108,8 +108,8 @@ class Water(Asked):
         self.assertEqual(found, [True, False])
 
     def test_words_and_what_is_refused(self) -> None:
-        for words in ["3", "left", "2"], ["3", "right"], ["3", "foot", "beds", "foot"], ["3", "quake", "1", "2"], []:
-            self.wetted(post([]), *words, status=2)
+        for words in "3 left 2", "3 right", "3 foot beds foot", "3 quake 1 2", "":
+            self.wetted(post([]), *words.split(), status=2)
         self.wetted(post([], [1, 0]), "3", status=2)
         self.wetted(post([]), "0", status=70)
         said = self.wetted(post([]), "5", status=70)[1]
