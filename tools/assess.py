@@ -76,7 +76,8 @@ def asked(words: Sequence[str]) -> Wanted:
     while rest:
         word = rest.pop(0)
         if word in seen or word not in (*VALUES, *ALONE) or word in VALUES and not rest:
-            raise Words(f"after MODEL [UNIT] come {', '.join(VALUES)}, each once and with its value, `travels` and `one`")
+            raise Words(f"after MODEL [UNIT] come {', '.join(VALUES)}, each once and with its value, "
+                        "`travels` and `one`")
         seen.add(word)
         if word in ALONE:
             wanted = replace(wanted, one=True) if word == "one" else replace(wanted, travels=True)

@@ -1,9 +1,10 @@
 #!/usr/bin/env python3
-"""Prints a model with the active pressure of earth behind it, or with the fill on an arch, as loads.
+"""Prints a model with the active pressure of earth behind it, the fill on an arch, or water beside it, as loads.
 
     tools/earth.py MODEL WEIGHT PHI DELTA BETA X Y [KIND [SURCHARGE KIND]]
     tools/earth.py MODEL WEIGHT PHI DELTA BETA X Y [dead [SURCHARGE dead]] quake N D [HEIGHT]
     tools/earth.py fill MODEL WEIGHT Y [push K] [spread FORCE X WIDTH SLOPE KIND]
+    tools/earth.py water MODEL WEIGHT LEVEL [right RIGHT] [foot | beds] [quake N D]
 
 Nothing here is proved. Numbers are decimals or fractions; N and D are whole. WEIGHT is the unit weight of the earth, in
 the units of a material's `weight`.
@@ -47,6 +48,16 @@ sideways on the rise of these edges, as a dead load. No more than the active pre
 of depth, evenly between its edges, and reaches each block by the part that falls on it. All of it must fall on the
 structure.
 
+**Water.** It stands to the left of the structure up to the height LEVEL, and to the right up to RIGHT if you write that.
+It presses square on each edge of a free block that no body hides on that side, also on the tops of steps and under
+ledges. With `foot` it also presses in the joints on fixed bodies, with `beds` in all beds: upwards on the block above,
+downwards on that below. There the head falls evenly from one face of the structure to the other, where it is that of
+the water, or the height of the bed if that is higher. This is for beds that are pressed from end to end: if one opens,
+water stands in the open part with its full pressure, and the structure holds less. In a model with a sway `quake N D`
+adds the push of the water at N/D of it, after Westergaard (1933), in the sense of the sway on both faces. All of this is
+dead. Draw the stone with its full weight: its uplift is in the pressures. Earth that stands in the water is lighter by
+that of the water; lay both, one after the other.
+
 Each load is two forces at the ends of an edge, with the same sum and the same moment; only their parts are rounded.
 They stand behind the loads of MODEL, which keep their numbers. If rounding would change the dead or the live ones by
 more than 0.2 % of their sum, all forces of the model and all weights are multiplied by 2, 5, 10 or more. The first line
@@ -72,6 +83,7 @@ from masonry.numbers import decimal, whole
 from masonry.open_faces import Laid, Piece, Side, between, open_pieces, with_loads
 from masonry.program import answer
 from masonry.units import Scale, scale_of
+from masonry.water import flooded
 
 NEAR = 1.0  # how far the corners of one back may lie off its line
 HIGHEST = Fraction(2, 3)  # of the height of the back: where the increment of the pressure may act
@@ -380,9 +392,9 @@ def numbers(words: list[str]) -> tuple[float, float, float, float, float, float]
 
 
 def main(words: list[str]) -> int:
-    is_fill = words[0] == "fill"
-    model, more, lines = filled(words[1:]) if is_fill else behind(words)
-    scale = scale_of(text_of(words[1] if is_fill else words[0])).times(more)
+    form = {"fill": filled, "water": flooded}.get(words[0])
+    model, more, lines = form(words[1:]) if form else behind(words)
+    scale = scale_of(text_of(words[1] if form else words[0])).times(more)
     sys.stdout.write((scale.line() if scale != Scale() else "") + printed(model))
     for line in lines:
         print(line, file=sys.stderr)

@@ -1,0 +1,254 @@
+"""Water beside a structure, under its foot and in its beds, as dead loads; and its push in an earthquake.
+
+Nothing here is proved. Water stands to the left up to one height and to the right up to another. It presses on each
+edge that lies open to its side, square to the edge.
+"""
+from collections.abc import Iterator, Sequence
+from dataclasses import dataclass, replace
+from fractions import Fraction
+
+from masonry.console import Refused, Words
+from masonry.fill import Surface, under
+from masonry.model import Bearing, Model, bearings_of, read
+from masonry.numbers import decimal, number, whole
+from masonry.open_faces import Force, Laid, Piece, Place, Side, across, edges, left_over, open_pieces, with_loads
+from masonry.program import answer
+from masonry.units import Scale
+
+NEAR = Fraction(1, 10**6)  # just above or below an edge
+FORM = "water takes MODEL WEIGHT LEVEL, and then `right RIGHT`, `foot` or `beds`, and `quake N D`"
+
+
+@dataclass(frozen=True)
+class Wet:
+    """A part of an edge under water: the pressures at its start and its end, and what they are multiplied by to come to
+    forces on the block."""
+    piece: Piece
+    pressures: Force
+    along: Force
+
+
+@dataclass(frozen=True)
+class Water:
+    """The unit weight, the height of the water to each side, None where there is none, and the share of the weight that
+    an earthquake takes sideways, to the right if it is above 0."""
+    weight: float
+    left: float | None
+    right: float | None
+    share: float = 0.0
+
+    def head(self, left: bool, y: float) -> float:
+        """The height up to which water stands in a bed that ends at this height on that side: no lower than its end."""
+        level = self.left if left else self.right
+        return y if level is None else max(level, y)
+
+
+# Edges that lie open
+
+
+def mirrored(model: Model, x: int, y: int) -> Model:
+    """The model with its places turned to the other side along an axis, if -1 stands for it."""
+    return replace(model, blocks=[replace(block, corners=[[x * a, y * b] for a, b in block.corners])
+                                  for block in model.blocks])
+
+
+def mirror(piece: Piece, x: int, y: int) -> Piece:
+    return Piece(piece.block, (x * piece.start[0], y * piece.start[1]), (x * piece.end[0], y * piece.end[1]))
+
+
+def sees_left(model: Model, at: Place) -> bool:
+    """Whether no body lies to the left of a place."""
+    return not any(first < at[0] for first, _ in spans(model, at[1]))
+
+
+def open_left(model: Model) -> Iterator[tuple[Piece, Force]]:
+    """The pieces of edges that lie open to the left, with the direction in which water presses on each, times its
+    length: those that face left, and level ones above a step or under a ledge."""
+    for piece in open_pieces(model, Side.LEFT, True):
+        (ax, ay), (bx, by) = piece.start, piece.end
+        yield piece, (float(ay - by), float(bx - ax))
+    for way in 1, -1:
+        for piece in level_pieces(model, way):
+            x, y = piece.middle()
+            if sees_left(model, (x, y + way * NEAR)):
+                yield piece, (0.0, float(-way * (piece.start[0] - piece.end[0])))
+
+
+def spans(model: Model, y: Fraction) -> Iterator[tuple[Fraction, Fraction]]:
+    """From where to where each body reaches at a height."""
+    for body in model.blocks:
+        if min(b for _, b in body.corners) <= y <= max(b for _, b in body.corners):
+            yield across(body, 1, y)
+
+
+def level_pieces(model: Model, way: int) -> Iterator[Piece]:
+    """The parts of level edges of free blocks that face up, or down for -1, and on which no body lies."""
+    for block in model.free_blocks():
+        for (ax, ay), (bx, by) in edges(block):
+            if ay == by and way * (ax - bx) > 0:
+                y, (low, high) = Fraction(ay), sorted((Fraction(ax), Fraction(bx)))
+                for first, last in left_over(low, high, list(spans(model, y + way * NEAR))):
+                    yield Piece(block.name, (last, y), (first, y))
+
+
+def wet(model: Model, water: Water) -> Iterator[Wet]:
+    """What lies under water, to both sides."""
+    for x, level in (1, water.left), (-1, water.right):
+        if level is None:
+            continue
+        seen = mirrored(model, x, 1)
+        for piece, along in open_left(seen):
+            part = under(piece, surface_at(level))
+            if part is None:
+                continue
+            flows_over(seen, part, level, water.right if x > 0 else water.left)
+            size = share_of(part, piece)
+            pressures = [water.weight * (level - float(place[1])) for place in (part.start, part.end)]
+            yield Wet(mirror(part, x, 1), (pressures[0], pressures[1]), (x * along[0] * size, along[1] * size))
+
+
+def surface_at(level: float) -> Surface:
+    return lambda _: level
+
+
+def share_of(part: Piece, whole_piece: Piece) -> float:
+    """The length of a part, as a part of the whole."""
+    axis = 0 if whole_piece.start[1] == whole_piece.end[1] else 1
+    return float((part.start[axis] - part.end[axis]) / (whole_piece.start[axis] - whole_piece.end[axis]))
+
+
+def flows_over(model: Model, part: Piece, level: float, other: float | None) -> None:
+    """Refuses a level top under water that lies open to both sides, if the water isn't as high on both."""
+    x, y = part.middle()
+    if part.start[1] == part.end[1] and other != level and sees_left(mirrored(model, -1, 1), (-x, y + NEAR)) \
+            and sees_left(model, (x, y + NEAR)):
+        raise Refused(f"water flows over {part.block}: let it stand as high on both sides, or no higher than the top")
+
+
+# Beds
+
+
+def beds(model: Model, table: str, water: Water, foot: bool) -> Iterator[tuple[Wet, Wet]]:
+    """The pressure in each bed, or in those on fixed bodies alone: on the body above it and on that below it. The head
+    falls evenly from the left face of the structure at its height to the right one."""
+    fixed = {body.name for body in model.blocks if body.fixed}
+    joints: dict[tuple[str, str], list[Bearing]] = {}
+    for one in bearings_of(table):
+        joints.setdefault((one.first, one.second), []).append(one)
+    for pair, ends in joints.items():
+        if len(ends) == 2 and abs(ends[0].tangent[0]) > abs(ends[0].tangent[1]) and (set(pair) & fixed or not foot):
+            yield in_bed(model, water, sorted(ends, key=lambda one: one.at[0]))
+
+
+def in_bed(model: Model, water: Water, ends: Sequence[Bearing]) -> tuple[Wet, Wet]:
+    (ax, ay), (bx, by) = ends[0].at, ends[1].at
+    low, high = face_to_face(model, Fraction(ay + by, 2))
+    left, right = water.head(True, float(ay)), water.head(False, float(by))
+
+    def pressure(x: int, y: int) -> float:
+        head = left + (right - left) * (float(x) - low) / (high - low)
+        return water.weight * max(head - y, 0.0)
+
+    upper, lower = (ends[0].second, ends[0].first) if ends[0].tangent[0] > 0 else (ends[0].first, ends[0].second)
+    start, end = (Fraction(ax), Fraction(ay)), (Fraction(bx), Fraction(by))
+    along = float(ay - by), float(bx - ax)
+    both = pressure(ax, ay), pressure(bx, by)
+    return (Wet(Piece(upper, start, end), both, along),
+            Wet(Piece(lower, start, end), both, (-along[0], -along[1])))
+
+
+def face_to_face(model: Model, y: Fraction) -> tuple[float, float]:
+    """From where to where the free blocks reach at a height."""
+    found = [across(block, 1, y) for block in model.free_blocks()
+             if min(b for _, b in block.corners) <= y <= max(b for _, b in block.corners)]
+    return float(min(low for low, _ in found)), float(max(high for _, high in found))
+
+
+# The earthquake
+
+
+def westergaard(one: Wet, water: Water) -> Wet | None:
+    """The push of the water before a face in an earthquake, after Westergaard (1933): 7/8 times the share, the unit
+    weight and the root of the depth here times the greatest depth. On a piece it is a pressure that goes evenly from
+    one end to the other, with the same sum and the same moment."""
+    deep = [pressure / water.weight for pressure in one.pressures]
+    rise = deep[1] - deep[0]
+    if abs(one.along[0]) <= abs(one.along[1]) or rise <= 0:
+        return None
+    unit = 7 / 8 * abs(water.share) * water.weight
+    total = unit * 2 / 3 * (deep[1] ** 1.5 - deep[0] ** 1.5) / rise
+    about = unit * (2 / 5 * (deep[1] ** 2.5 - deep[0] ** 2.5)
+                    - 2 / 3 * deep[0] * (deep[1] ** 1.5 - deep[0] ** 1.5)) / rise ** 2
+    first, last = 4 * total - 6 * about, 6 * about - 2 * total
+    way = 1.0 if water.share > 0 else -1.0
+    return Wet(one.piece, (first, last), (way * abs(one.along[0]), 0.0))
+
+
+def depth_of(pieces: Sequence[Wet], water: Water, right: bool) -> float:
+    """The greatest depth of the water before the faces of one side."""
+    return max((pressure / water.weight for one in pieces for pressure in one.pressures
+                if (one.along[0] < 0) == right and one.along[0]), default=0.0)
+
+
+def shaken(laid: Laid, pieces: Sequence[Wet], water: Water) -> None:
+    """Lays the push of an earthquake: to the left and to the right of the structure it has one sense."""
+    for right in False, True:
+        root = depth_of(pieces, water, right) ** 0.5
+        for one in pieces:
+            if one.along[0] and (one.along[0] < 0) == right and (push := westergaard(one, water)):
+                laid.pressed(push.piece, "dead", (root * push.pressures[0], root * push.pressures[1]), push.along)
+
+
+# The words
+
+
+@dataclass(frozen=True)
+class Wishes:
+    """Where water stands to the right, in which beds it presses, and the share of the sway."""
+    right: float | None = None
+    foot: bool = False
+    beds: bool = False
+    quake: Fraction | None = None
+
+
+def wishes(words: list[str]) -> Wishes:
+    found, takes = Wishes(), {"right": 1, "foot": 0, "beds": 0, "quake": 2}
+    while words:
+        word, count = words[0], takes.pop(words[0], None)
+        if count is None or len(words) <= count:
+            raise Words(FORM)
+        if word == "right":
+            found = replace(found, right=float(decimal(words[1], "RIGHT", -10**6, 10**6)))
+        elif word == "quake":
+            found = replace(found, quake=Fraction(whole(words[1], "N", 0), whole(words[2], "D", 1)))
+        else:
+            found = replace(found, foot=True, beds=found.beds or word == "beds")
+        words = words[1 + count:]
+    return found
+
+
+def flooded(words: list[str]) -> tuple[Model, Scale, list[str]]:
+    """The model with water beside it, by what its forces are multiplied, and what to say."""
+    if len(words) < 3:
+        raise Words(FORM)
+    weight, level = float(decimal(words[1], "WEIGHT", Fraction(1, 10**9), 10**6)), float(decimal(words[2], "LEVEL"))
+    wanted, table = wishes(words[3:]), answer("contacts", words[0])
+    model, laid = read(words[0]), Laid()
+    sway = model.sway or [0, 0]
+    if any(sway) and wanted.quake is None or wanted.quake is not None and not sway[0]:
+        raise Words("`quake N D` goes with a model that has a sway sideways, and with no other")
+    water = Water(weight, level, wanted.right, float((wanted.quake or 0) * sway[0]))
+    pieces = list(wet(model, water))
+    if not pieces:
+        raise Refused(f"no free block has an open edge to the water under the height {level:g}")
+    for one in pieces:
+        laid.pressed(one.piece, "dead", one.pressures, one.along)
+    free = {block.name for block in model.free_blocks()}
+    for one in (each for both in (beds(model, table, water, not wanted.beds) if wanted.foot else ()) for each in both):
+        if one.piece.block in free:
+            laid.pressed(one.piece, "dead", one.pressures, one.along)
+    if water.share:
+        shaken(laid, pieces, water)
+    right, left = (sum(max(way * one.along[0], 0.0) * sum(one.pressures) / 2 for one in pieces) for way in (1, -1))
+    made, scale, lines = with_loads(model, laid)
+    return made, scale, [f"water pushes right {number(right, 1e-6)} left {number(left, 1e-6)}", *lines]
