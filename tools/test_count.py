@@ -72,8 +72,8 @@ class Counts(Clones):
         self.assertEqual([line.split()[-1] for line in count.models(self.top)], ["models", "2", "1", "3"])
 
     def test_rows_of_each_line_by_form(self) -> None:
-        # One row of `check` names an overlap and one of `stand` a fault of the file; of neither is there a row of `table`,
-        # and `stack` reads no model.
+        # One row of `check` names an overlap and one of `stand` a fault of the file; of neither is there a row of
+        # `table`, and `stack` reads no model.
         self.examples()
         self.put("examples/expected/ends.err", "words\n")
         found = {line.rsplit(None, 10)[0]: line.split()[-10:] for line in count.forms(self.top)}
