@@ -73,6 +73,20 @@ class Counts(Clones):
             "together                      2"])
         self.assertEqual([line.split()[-1] for line in count.models(self.top)], ["models", "2", "1", "3"])
 
+    def test_rows_of_each_line_by_form(self) -> None:
+        # One row of `check` names an overlap and one of `stand` a fault of the file; of neither is there a row of
+        # `table`, and `stack` reads no model.
+        self.examples()
+        self.put("examples/expected/ends.err", "words\n")
+        found = {line.rsplit(None, 10)[0]: line.split()[-10:] for line in count.forms(self.top)}
+        heads = "check contacts load range sample stack stages stand table yield".split()
+        self.assertEqual(found["line"], heads)
+        cells = dict(zip(heads, found["model overlap"]))
+        self.assertEqual([cells[form] for form in ("check", "table", "stack")], ["1", "0", "-"])
+        self.assertEqual(dict(zip(heads, found["model .."]))["stand"], "1")
+        self.assertEqual(count.line_of("wide least run 1 2 3 4 divide"), "wide least run")
+        self.assertEqual(count.line_of("wide stage 4 end forces whole 12"), "wide end")
+
     def test_lines_without_numbers_and_names(self) -> None:
         for line, fault in (("wide stage 2 run 1 2 3 4 divide", "wide run"), ("wide dir 3 first", "wide first"),
                             ("certificate line 12", "certificate line"),

@@ -2,10 +2,11 @@
 """Proves and builds the program and all crates below it, several crates side by side.
 
 `pungiroe` calls it if the program is missing, or isn't made from the sources that are there. Each crate is proved by
-the prover that rt calls too, over the libraries of the crates below it. A library holds what other crates can cite of its crate, and not
-its proofs, so that a check above it has less to load. It stands in out/library of its crate, apart from what rt makes,
-with a sum of all that it is made from: as long as that stays the same, it isn't made again. If `rt check` has kept what
-it checked of a crate, in out/incremental, that is used and added to; the library then holds the proofs as well.
+the prover that rt calls too, over the libraries of the crates below it. A library holds what other crates can cite of
+its crate, and not its proofs, so that a check above it has less to load. It stands in out/library of its crate, apart
+from what rt makes, with a sum of all that it is made from: as long as that stays the same, it isn't made again. If `rt
+check` has kept what it checked of a crate, in out/incremental, that is used and added to; the library then holds the
+proofs as well.
 
 A crate begins once all that it stands on is made, and as many provers run at once as there are processors, since more
 of them take more processor time for the same work. Crates with the most work behind them go first, with two provers
@@ -17,7 +18,8 @@ If the kit isn't one that this was run with, or lacks a word or a file that is n
 asks for that, and BUILD_BY=prover for the prover, on any kit that has all words and files. A line says which way was
 taken, and why.
 
-If a source changes while the work goes on, the program isn't kept, the exit status is 1, and the next run makes what is to be made again.
+If a source changes while the work goes on, the program isn't kept, the exit status is 1, and the next run makes what is
+to be made again.
 """
 import fcntl
 import functools

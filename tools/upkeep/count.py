@@ -4,6 +4,7 @@
     tools/upkeep/count.py crates
     tools/upkeep/count.py rows
     tools/upkeep/count.py faults
+    tools/upkeep/count.py forms
     tools/upkeep/count.py models
     tools/upkeep/count.py random
     tools/upkeep/count.py refusals LOG
@@ -12,7 +13,8 @@
 `crates`: the functions with a contract, those that are `pub` and the others; the tests; the edits of must-fail/, how
 many functions they are of, and how many of the edits turn a function that is `pub` or a method of a trait. `rows`: the
 rows of examples/, by the form of words and by status; those of judged, ranged, staged and bounded have their own
-columns. `faults`: rows and made by the line on standard error, without numbers and names. `models`: the files .toml of
+columns. `faults`: rows and made by the line on standard error, without numbers and names. `forms`: the same by line and
+form of words, in which a form that never gives a line has `-`, and a line without a row 0. `models`: the files .toml of
 examples/ by folder. `random`: the tests of tools/tests/test_*.py that draw models, walls or words at random, with how
 many they draw, where that is a number in a loop of the test. `refusals`: the edits that a log of `rt ci` or `rt
 must-fail` tells of, by where the prover refused them. A refusal at a clause, at an invariant or at the condition of a
@@ -136,14 +138,55 @@ def fault_of(line: str) -> str:
     return " ".join(words)
 
 
-def faults(top: Path) -> Iterator[str]:
-    found: Counter[str] = Counter()
+def refused_rows(top: Path) -> Iterator[tuple[str, str]]:
+    """The form of each row that expects a line on standard error, and that line."""
     for name in ("rows", "made"):
         for row in listed(top, name):
             path = top / "examples/expected" / f"{row[0]}.err"
             if path.exists():
-                found[fault_of(text_of(path))] += 1
+                yield form_of(name, row), text_of(path)
+
+
+def faults(top: Path) -> Iterator[str]:
+    found = Counter(fault_of(line) for _, line in refused_rows(top))
     return table(("line", "rows"), sorted(found.items()))
+
+
+# Rows of each line of refusal, by the forms of words that may give it
+
+READING = "check", "contacts", "load", "range", "stages", "stand", "table", "yield"
+JUDGING = "load", "range", "sample", "stages", "stand", "yield"
+FORMS = tuple(sorted({*READING, *JUDGING, "stack"}))
+CERTIFIED = "check", "table"
+GIVEN_BY = {
+    "words": FORMS, "file model": READING, "file certificate": CERTIFIED, "file order": ("stages",),
+    "file directions": ("yield",), "long model": READING, "long certificate": CERTIFIED, "long order": ("stages",),
+    "long directions": ("yield",), "model ..": READING, "model overlap": READING, "model too many bearings": READING,
+    "model size": ("sample", "stack"), "certificate line": CERTIFIED, "order line": ("stages",),
+    "directions line": ("yield",), "no pair": ("yield",), "no live load": ("load", "range"), "wide run": JUDGING,
+    "wide end": JUDGING, "wide check": (*CERTIFIED, *JUDGING), "wide least run": ("range",),
+    "wide least end": ("range",), "wide least check": ("range",), "wide first": ("yield",), "wide second": ("yield",),
+    "wide point": ("yield",), "wide table": ("table",), "spent": JUDGING}
+
+
+def line_of(line: str) -> str:
+    """A line on standard error as GIVEN_BY has it: a fault of a model's file is one, and the least side is told."""
+    fault = fault_of(line)
+    if line.startswith("wide least "):
+        return fault.replace("wide", "wide least", 1)
+    return fault if fault in GIVEN_BY or not fault.startswith("model ") else "model .."
+
+
+def cell_of(count_of_rows: int, is_given: bool) -> str | int:
+    return count_of_rows if is_given or count_of_rows else "-"
+
+
+def forms(top: Path) -> Iterator[str]:
+    found = Counter((line_of(line), form) for form, line in refused_rows(top))
+    lines = [*GIVEN_BY, *sorted({line for line, _ in found} - set(GIVEN_BY))]
+    cells: list[Cells] = [[line, *(cell_of(found[line, form], form in GIVEN_BY.get(line, ())) for form in FORMS)]
+                          for line in lines]
+    return table(("line", *FORMS), cells, total=False)
 
 
 # Models
@@ -215,8 +258,8 @@ def refusals(name: str) -> Iterator[str]:
     found = Counter((kind_of(reason), how_of(reason)) for reason in reasons)
     hows = [*dict(HOW), NO_PROOF]
     kinds = [kind for kind in (*dict(KINDS), "elsewhere") if any(found[kind, how] for how in hows)]
-    rows: list[list[str | int]] = [[kind, sum(found[kind, how] for how in hows), *(found[kind, how] for how in hows)]
-                                   for kind in kinds]
+    rows: list[Cells] = [[kind, sum(found[kind, how] for how in hows), *(found[kind, how] for how in hows)]
+                         for kind in kinds]
     return table(("refused", "edits", *hows), rows)
 
 
@@ -253,7 +296,8 @@ def plants(names: Sequence[str]) -> Iterator[str]:
     yield from table(("not judged, since", "bodies"), sorted(found.items()))
 
 
-TABLES = {"crates": crates, "rows": rows, "faults": faults, "models": models, "random": random_tests}
+TABLES = {"crates": crates, "rows": rows, "faults": faults, "forms": forms, "models": models,
+          "random": random_tests}
 
 
 OF_LOGS = {"refusals": lambda names: refusals(names[0]), "plants": plants}

@@ -1,8 +1,10 @@
-//! The calls of the system. One line of it is trusted: `fs::open` in `open`. The kit doesn't say what a name holds, so
-//! that nothing shows that this line opens the file asked for and does nothing else. Of reads and writes it is proved,
-//! over any reader and any writer of the kit that tells its bytes, that what they give is what the call gave, or that
-//! it failed. That they call at all is tested. Which stream is which is a matter of types, as each handle writes to its
-//! own. Of real files and streams the kit tells no bytes, and so the real devices tell none.
+//! The calls of the system. Trusted are the six functions of it that have a handle of files or of the whole system,
+//! that they make no further call with it: `open`, `read_some`, `RealShelf::new`, `RealSink::new`, `standard_output`
+//! and `standard_error`. And of `fs::open`, in `open`, it is trusted that it opens the file asked for, since the kit
+//! doesn't say what a name holds. Of reads and writes it is proved, over any reader and any writer of the kit that
+//! tells its bytes, that what they give is what the call gave, or that it failed. That they call at all is tested.
+//! Which stream is which is a matter of types, as each handle writes to its own. Of real files and streams the kit
+//! tells no bytes, and so the real devices tell none.
 
 ghost use Rattle.std.specs.Prelude.{◌≡◌, None, Some};
 

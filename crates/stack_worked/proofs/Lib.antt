@@ -5,4 +5,5 @@ mod FalseScenes
 mod PostSurvey
 mod PostScene
 mod PostContent
+mod PostFiles
 mod WorkedFactors

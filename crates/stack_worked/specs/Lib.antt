@@ -4,3 +4,4 @@ pub mod TwoBlocks
 pub mod WorkedScenes
 pub mod SurveyedPost
 pub mod WorkedFactors
+pub mod WorkedFiles

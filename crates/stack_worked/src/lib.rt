@@ -4,4 +4,4 @@
 
 mod laws;
 
-pub use laws::{drawn_post_law, worked_factors, worked_scenes};
+pub use laws::{drawn_post_law, worked_factors, worked_files, worked_scenes};
