@@ -105,8 +105,8 @@ table_with t own rows = record {
   basic = (table_of_revised t).basic;
 }
 
--- rows in place of those of a table: they have its height and widths, those that are known to fit do, and in their table
--- only the objective row is another, that of these own cells and numbers
+-- rows in place of those of a table: they have its height and widths, those that are known to fit do, and in their
+-- table only the objective row is another, that of these own cells and numbers
 pub record HaveObjective (t : RevisedTable) (own row : List ℤ) (d : ℤ) (rows : List TableRow) : Type 0 where
   pub height : length rows ≡ suc t.given.first.rows
   pub widths : HaveWidths t.given.first.rows (seen_at rows)

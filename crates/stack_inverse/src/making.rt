@@ -116,7 +116,8 @@ fn sized_number(given: &Given, row: &TableRow, i: usize, j: usize) -> Option<i12
 }
 
 /// Makes the numbers of a plain column, row by row. `marks` has a mark of each row that may have something in one of
-/// the column's rows, and afterwards of those whose number isn't 0. Gives up likely where a sum of products doesn't fit.
+/// the column's rows, and afterwards of those whose number isn't 0. Gives up likely where a sum of products doesn't
+/// fit.
 pub fn enter_column(
     given: &Given,
     rows: &[TableRow],

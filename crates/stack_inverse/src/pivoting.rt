@@ -137,8 +137,8 @@ fn reduce_others(
 }
 
 /// A pivot at a row and a column, whose numbers are `entered`; `pivot` is room for the pivot row. `touched` and
-/// `all_fit` as in `reduce_others`. `TooWide` names the first operation that is too wide. Given up where the row can't be
-/// divided, or another not reduced.
+/// `all_fit` as in `reduce_others`. `TooWide` names the first operation that is too wide. Given up where the row can't
+/// be divided, or another not reduced.
 pub fn pivot_rows(
     given: &Given,
     rows: &mut [TableRow],

@@ -1,5 +1,5 @@
-//! The step of the numbers of a row, in one of the ways. Where a number shows that the divisor was too great, those before
-//! it are multiplied by what it was too great by.
+//! The step of the numbers of a row, in one of the ways. Where a number shows that the divisor was too great, those
+//! before it are multiplied by what it was too great by.
 
 ghost use Rattle.std.specs.Prelude.{◌≡◌, ℕ, ◌-◌, ◌^◌, ◌<◌, ◌≤◌, pos, unsigned_abs, true, length, OnSome, IfSome};
 ghost use Rattle.stack_rows.specs.RowForm.{number_at, AreJumps, SkipsOnly, IsQuotient, IsDividedPart, IsMultiplied};

@@ -36,8 +36,8 @@ fn join_row(jumps: &mut [u16], other: &Row)
     join_jumps(jumps, other.jumps.as_slice());
 }
 
-/// A step of small numbers of the numbers of a row but its right side: at the places of the other row alone, where that is all.
-/// Gives a top of them, by one that they had.
+/// A step of small numbers, of all of a row but its right side: at the places of the other row alone, where that is
+/// all. Gives a top of them, by one that they had.
 fn small_first(
     numbers: &mut [i128],
     other: &Row,

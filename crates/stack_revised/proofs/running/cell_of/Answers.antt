@@ -10,7 +10,8 @@ returns-in_ok-number-in-Column c =
     let number : SFits w128 c.in_ok-number-in-Column.number = search rules in
     let under : SFits w128 c.under.result = search rules in
     if_some c.cell.result (λ x h. h
-    ∙ (λ z. over ((to_z-of_z number ∙ c.in_ok-number-in-Column.ensures) z) ((to_z-of_z under ∙ c.under.ensures.value) z))
+    ∙ (λ z. over ((to_z-of_z number ∙ c.in_ok-number-in-Column.ensures) z)
+    ((to_z-of_z under ∙ c.under.ensures.value) z))
     ∙ sym (ap (λ r. read_at c.args.t.now r c.args.i) c.in-Column.is)) c.cell.ensures
 
 pub returns-in-Right : goal.returns-in-Right

@@ -49,7 +49,8 @@ invariant_of-self-clause-widths c =
 pub invariant_of-self-clause-fitting : goal.invariant_of-self-clause-fitting
 invariant_of-self-clause-fitting c =
     subst (λ (rs : List TableRow). AreFitting widest (cells_of_rows c.args.self.now.given rs) (seen_at rs))
-    (sym (rows_are (goal.at.invariant_of-self-clause-fitting c).After-pivot_rows-done)) c.pivot_rows-done.ensures.fitting
+    (sym (rows_are (goal.at.invariant_of-self-clause-fitting c).After-pivot_rows-done))
+    c.pivot_rows-done.ensures.fitting
 
 pub invariant_of-self-clause-basics : goal.invariant_of-self-clause-basics
 invariant_of-self-clause-basics c = length-set c.args.self.now.basic.items c.args.row c.args.column
@@ -136,9 +137,9 @@ Next c = (i j : ℕ) → cells_of_rows c.args.self.now.given (with_items c.args.
 done : (c : After-mark_on) → ((c.is_ok-ok.result ≡ true) × Next c) ⊎ (c.is_ok-ok.result ≡ false)
 done c =
     let s = c.args.self.now in
-    done_or_not c.pivot_rows-done.result c.is_ok-ok.result c.is_ok-ok.ensures.value (on_ok_weaker c.pivot_rows-done.result
-    (λ h i j. (λ z. cells_of_rows s.given (written s.rows c.pivot_rows-done.new.rows c.as_mut_slice.ensures.value
-    c.pivot_rows-done.auto.rows z) i j) ∙ h.cell i j
+    done_or_not c.pivot_rows-done.result c.is_ok-ok.result c.is_ok-ok.ensures.value
+    (on_ok_weaker c.pivot_rows-done.result (λ h i j. (λ z. cells_of_rows s.given (written s.rows
+    c.pivot_rows-done.new.rows c.as_mut_slice.ensures.value c.pivot_rows-done.auto.rows z) i j) ∙ h.cell i j
     ∙ (λ z. next ordered_fractions (cells_of_rows s.given (c.as_mut_slice.ensures.value z)) c.args.row
     c.args.column i j)) c.pivot_rows-done.ensures.ok)
 

@@ -1,5 +1,5 @@
-use Rattle.std.proofs.Common.{◌≡◌, ◌≢◌, sym, ap, subst, ◌∙◌, ◌+◌, get_or, ◌≤◌, unsigned_abs, arith, rules, SFits, to_z-of_z}
-use Rattle.std.proofs.Common.{pos}
+use Rattle.std.proofs.Common.{◌≡◌, ◌≢◌, sym, ap, subst, ◌∙◌, ◌+◌, get_or, ◌≤◌, unsigned_abs, arith, rules, SFits}
+use Rattle.std.proofs.Common.{to_z-of_z, pos}
 use Rattle.stack_rational.proofs.Common.{w128, ints, sign_of, widest, ◌≺◌, ◌≼◌}
 use Rattle.stack_table.specs.Table.{columns}
 use Rattle.stack_bland.specs.Choice.{is_plus}
