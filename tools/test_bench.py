@@ -7,13 +7,13 @@ They call the program and `esolver`.
 """
 import contextlib
 import io
-import os
 import random
 import sys
 import unittest
 from collections.abc import Callable, Sequence
 from dataclasses import replace
 from fractions import Fraction
+from hashlib import sha256
 from pathlib import Path
 from tempfile import TemporaryDirectory
 from unittest import mock
@@ -340,9 +340,12 @@ class Building(unittest.TestCase):
                 with mock.patch.object(bench, "PROGRAM", str(Path(folder, "pungiroe"))):
                     self.assertFalse(bench.built())
                     Path(out, "pungiroe").touch(0o755)
+                    self.assertFalse(bench.built())
+                    # The sum of nothing, and that of one empty source, as sha256sum tells both.
+                    empty, source = sha256(b"").hexdigest(), sha256(f"{sha256().hexdigest()}  crates.txt\n".encode())
+                    Path(out, "pungiroe.stamp").write_text(f"{empty}  -\n{source.hexdigest()}  -\n")
                     self.assertTrue(bench.built())
                     Path(folder, "crates/later.rt").touch()
-                    os.utime(Path(folder, "crates/later.rt"), (2**31, 2**31))
                     self.assertFalse(bench.built())
                 self.assertTrue(bench.built())
 
