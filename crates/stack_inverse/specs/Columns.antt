@@ -22,7 +22,7 @@ combined m a f = sum_to m (λ r. a r *ℤ f r)
 abbrev pub sizes : ℕ → (ℕ → ℤ) → ℕ
 sizes m f = sum_below 0 ◌+◌ m (λ r. unsigned_abs (f r))
 
--- a number by where its column stands: plain, artificial, the right side, or past it
+-- a number, by the kind of its column: plain, artificial, the right side, or past it
 abbrev pub by_place : (plain artificial last : Bool) → (x y z : ℤ) → ℤ
 by_place b c d x y z = cond b x (cond c y (cond d z (pos 0)))
 
@@ -64,7 +64,7 @@ pub record AreFirst (m n : ℕ) (columns : List FirstColumn) (column_top : ℕ) 
 abbrev pub IsOwn : List ℤ → ℕ → Type 0
 IsOwn own own_top = (j : ℕ) → unsigned_abs (number_at own j) ≤ own_top
 
--- those of row i, of which only the objective row m has some; and their top
+-- the own cells of row i, which are nonzero for the objective row m only; and their top
 abbrev pub revised_own : ℕ → List ℤ → ℕ → ℕ → ℤ
 revised_own m own i j = cond (eqb i m) (number_at own j) (pos 0)
 

@@ -36,7 +36,7 @@ AreFirstColumns P columns =
 abbrev pub sizes_in : List Cell → ℕ
 sizes_in cells = sum_among 0 ◌+◌ (λ x. unsigned_abs x.value) cells
 
--- 0 less the values of cells
+-- minus the sum of the values of cells
 abbrev pub less_cells : List Cell → ℤ
 less_cells cells = pos 0 -ℤ sum_of (λ x. x.value) cells
 

@@ -53,7 +53,7 @@ pub record AreMarkedOn (places uses : List Marks) (marks : List ℕ) (row : List
   pub marks_kept : (j : ℕ) → mark_in new_marks j ≡ 0 → mark_in marks j ≡ 0
   pub unused : (r j : ℕ) → r < length uses → number_at row r ≢ pos 0 → mark_in new_marks j ≡ 0 → mark_at uses r j ≡ 0
 
--- lists of w words, and further words, in which all is marked
+-- every bit is set, in each list of w words and in `marks`
 pub record AreFull (places : List Marks) (w : ℕ) (marks : List ℕ) : Type 0 where
   pub each_place : (r i : ℕ) → r < length places → i / 64 < w → mark_at places r i ≡ 1
   pub each_mark : (j : ℕ) → j / 64 < length marks → mark_in marks j ≡ 1

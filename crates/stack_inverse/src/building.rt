@@ -1,4 +1,4 @@
-//! The first rows of a problem: their columns, their sizes and what they leave in the objective row.
+//! The first rows of a problem: their columns, their sizes and their objective coefficients in phase 1.
 
 ghost use Rattle.std.specs.Prelude.{◌≡◌, ℕ, ◌<◌, ◌≤◌, map, length, get_or, [], unsigned_abs, IfOk, IfSome};
 ghost use Rattle.std.specs.List.{AllByRecursion};
@@ -115,7 +115,7 @@ pub fn column_top(columns: &[FirstColumn]) -> Option<u128>
     Some(top)
 }
 
-/// 0 less the values of cells.
+/// Minus the sum of the values of cells.
 fn less_cells(cells: &[Cell]) -> Option<i128>
     ensures { IfSome result (λ r. r ≡ less_cells cells.now) }
 {

@@ -85,7 +85,7 @@ pub fn zeros(alloc: Global, count: usize) -> Result<Vec<i128>, NoTable>
     Ok(list)
 }
 
-/// Room for as many rows as each has numbers, none known to fit.
+/// `width` rows of `width` zeros, none known to fit.
 pub fn rows_of(alloc: Global, width: u16) -> Result<Vec<TableRow>, NoTable>
     ensures height { IfOk result (λ r. length r.items ≡ width) }
     ensures widths { IfOk result (λ r. (i : ℕ) → i < width → length (seen_at r.items i).numbers ≡ width) }

@@ -44,7 +44,7 @@ impl Marks {
         self.words[j / 64] = self.words[j / 64] | (1u64 << (j % 64));
     }
 
-    /// Takes the mark of a place away.
+    /// Clears the mark of a place.
     pub fn remove(&mut self, j: usize)
         requires { j / 64 < length self.old.words.items }
         ensures long { length self.new.words.items ≡ length self.old.words.items }
@@ -72,7 +72,7 @@ impl Marks {
         }
     }
 
-    /// Marks also what others mark.
+    /// Adds all marks of `other`.
     pub fn join(&mut self, other: &Marks)
         requires { length other.now.words.items ≡ length self.old.words.items }
         ensures long { length self.new.words.items ≡ length self.old.words.items }

@@ -15,7 +15,7 @@ pub struct Divider {
 }
 
 impl Divider {
-    /// Of 0 nothing is a multiple but 0.
+    /// Only 0 is a multiple of 0.
     pub fn of(by: i128) -> Divider
         ensures { result.by ≡ by }
     {

@@ -19,8 +19,8 @@ pub struct Factors {
     pub less: i128,
 }
 
-/// The factors of a row step: they are to each other as the denominator of the pivot row to the row's number in the
-/// pivot's column. Gives up where that denominator isn't positive, and likely nowhere else.
+/// The factors of a row step, in the ratio of the denominator of the pivot row to the row's number in the pivot's
+/// column. Gives up if that denominator isn't positive, and likely never otherwise.
 pub fn factors_of(number: i128, pivot_under: Divider) -> Option<Factors>
     ensures some { IfSome result (λ r. pos 0 <ℤ r.times) }
     ensures cross { IfSome result (λ r. number *ℤ r.times ≡ r.less *ℤ pivot_under.by) }

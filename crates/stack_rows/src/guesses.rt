@@ -23,7 +23,7 @@ fn may_wrap(own: u128, other: u128, factors: Factors) -> bool {
     }
 }
 
-/// What a step makes of the right side: a hint.
+/// The right side after a step, modulo 2^128: a hint.
 fn right_hint(numbers: &[i128], other: &[i128], factors: Factors) -> i128 {
     let right = match (numbers.last(), other.last()) {
         (Some(own), Some(right)) => (*own, *right),

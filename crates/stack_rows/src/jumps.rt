@@ -27,7 +27,7 @@ fn earlier(a: u16, b: u16) -> u16
     if a < b { a } else { b }
 }
 
-/// Makes of the jumps of a row such that stop also where another row has something.
+/// Turns the jumps of a row into jumps that also stop where another row has something.
 pub fn join_jumps(jumps: &mut [u16], other: &[u16])
     requires { length other.now ≡ length jumps.old }
     ensures long { length jumps.new ≡ length jumps.old }

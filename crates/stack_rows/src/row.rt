@@ -74,7 +74,7 @@ impl Row {
         self.age = 0;
     }
 
-    /// A top that is no greater than it must be.
+    /// Recomputes the top from the numbers.
     pub fn tighten(&mut self)
         ensures numbers { self.new.numbers.items ≡ self.old.numbers.items }
         ensures under { self.new.under ≡ self.old.under }
@@ -280,8 +280,7 @@ impl Row {
         self.take_small_over(pivot, step, over)
     }
 
-    /// Makes of the row another one, divided by a number: this over it. Gives up where that is 0, and likely nowhere
-    /// else.
+    /// Sets this row to `row` divided by `number`. Gives up if that is 0, and likely never otherwise.
     pub fn divide(&mut self, row: &Row, number: i128) -> Option<()>
         requires { length row.now.numbers.items ≡ length self.old.numbers.items }
         ensures width { length self.new.numbers.items ≡ length self.old.numbers.items }

@@ -25,7 +25,7 @@ fn number_after(number: i128, other: i128, s: &BroadStep, by: i128) -> Option<i1
     }
 }
 
-/// Makes of the jumps of a row such of another row as well.
+/// Turns the jumps of a row into jumps that are valid for another row too.
 fn join_row(jumps: &mut [u16], other: &Row)
     requires long { length jumps.old ≡ length other.now.numbers.items }
     requires further { (j : ℕ) → j < get_or jumps.old j (suc j) }
@@ -36,8 +36,8 @@ fn join_row(jumps: &mut [u16], other: &Row)
     join_jumps(jumps, other.jumps.as_slice());
 }
 
-/// A step of small numbers, of all of a row but its right side: at the places of the other row alone, where that is
-/// all. Gives a top of them, by one that they had.
+/// A step of small numbers, of all of a row but its right side, visiting only the pivot row's nonzeros if that
+/// suffices. Gives a top of them, by one that they had.
 fn small_first(
     numbers: &mut [i128],
     other: &Row,
