@@ -195,6 +195,9 @@ def telling_of_old(cert: str) -> Iterator[None]:
     before = which()
     try:
         yield
+    except Words:
+        before = None
+        raise
     finally:
         if before is not None and which() == before:
             console.said(f"solve: {console.plain(cert)} is still what it was before", 0)

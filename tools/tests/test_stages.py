@@ -91,7 +91,7 @@ class Places(Asked):
             self.assertRegex(err.getvalue(), wanted)
             self.assertNotIn("installed", err.getvalue())
         for there, said in ("/usr/bin/esolver", "^esolver: No such file"), (None, "isn't installed"):
-            with mock.patch("subprocess.run", side_effect=FileNotFoundError(2, "No such file")), \
+            with mock.patch("subprocess.Popen", side_effect=FileNotFoundError(2, "No such file")), \
                     mock.patch("shutil.which", return_value=there), self.assertRaisesRegex(programs.NoAnswer, said):
                 programs.asked("", [])
 
