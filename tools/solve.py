@@ -40,10 +40,11 @@ refuses, and of one that collapses, has its model in CERT-K.toml and its certifi
 `slides` asks whether any joint can slide at a factor from 0 to N/D, or to the collapse load factor if that is less or
 no N/D is given. It looks at all pressing forces that balance the loads, whatever the friction. A joint can slide if in
 some of them |T| is at least the friction times N, also if both are 0. The script stops at the first joint that it
-finds, since one is enough for the factor to be an upper bound alone; with `all` it asks about every joint. For each
-that can slide, a line says between which factors, and with which N and T at the least of these; then come all joints at
-the least factor of all. Or the line is `no joint can slide`. Then the factor is no mere upper bound: docs/scope.md.
-This has no certificate; the script checks in fractions the dual numbers that close each of its linear programs.
+finds, since one is enough for the factor to be an upper bound alone; others may slide from lower factors on, and with
+`all` it asks about every joint. For each that can slide, a line says between which factors, and with which N and T at
+the least of these; then come all joints at the least factor of all. Or the line is `no joint can slide`. Then the
+factor is no mere upper bound: docs/scope.md. This has no certificate; the script checks in fractions the dual numbers
+that close each of its linear programs.
 
 The status is 0 where all that was asked is accepted, also for a collapse; 2 for wrong words, 9 without a live load, 70
 where something wasn't found, with the reason on standard error; or that of `contacts`, which refuses the model.

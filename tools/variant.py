@@ -90,8 +90,8 @@ def with_load(name: str, words: list[str]) -> Model:
     u, v = (whole(word, called, -FORCE, FORCE) for word, called in zip(words[4:], ("FX", "FY")))
     model, scale = read(name), scale_of(text_of(name))
     if scale != Scale():
-        raise Refused(f"{plain(name)}: its first line says that forces or lengths are multiplied, so (X, Y) and (FX, FY) "
-                      "would be others than those of the structure: add the load before that")
+        raise Refused(f"{plain(name)}: its first line says that forces or lengths are multiplied, so (X, Y) and "
+                      "(FX, FY) would be others than those of the structure: add the load before that")
     if block not in (one.name for one in model.free_blocks()):
         raise Refused(f"no free block is named {shown(block)}")
     if len(model.loads) == LOADS:

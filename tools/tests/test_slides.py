@@ -54,7 +54,7 @@ class Slides(Asked):
         named = [line for line in first if " can " in line]
         self.assertEqual((len({tuple(line.split()[1:3]) for line in named}), len(named)), (1, 1))
         self.assertIn(named[0], every)
-        self.assertTrue(first[-1].startswith("this joint is enough"), first)
+        self.assertTrue(first[-1].startswith("one joint is enough"), first)
         asked = list[int]()
         real = slides.Pressing.slide
 

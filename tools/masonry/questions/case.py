@@ -14,8 +14,8 @@ from masonry.console import Refused, quiet
 from masonry.lp import linear
 from masonry.lp.linear import Amounts, Inner, Opening, Raised
 from masonry.lp.programs import NoAnswer
-from masonry.lp.short_certificates import (Forces, NoForces, Tried, exact_forces, forces_lines, motion_lines, refute_all,
-                                           short_forces, short_motion)
+from masonry.lp.short_certificates import (Forces, NoForces, Tried, exact_forces, forces_lines, motion_lines,
+                                           refute_all, short_forces, short_motion)
 from masonry.model import Model
 from masonry.numbers import nine_digits, ratio, simplest
 from masonry.questions.results import Collapses, Greatest, Loaded, Shares, Standing, Stands, Unlimited
@@ -44,9 +44,9 @@ def bits(lines: Sequence[str]) -> int:
 @dataclass
 class Known:
     """What cases with the same bodies and dead loads share: the table of contacts, forces for these loads, some far
-    inside their cones and short ones, whether it is accepted that they stand, how many greatest factors in a row had no certificate, motions that no
-    bearing resists, and at which scales forces were found. Where no certificate is kept they needn't be the least."""
-    table: str | None = None
+    inside their cones and short ones, whether it is accepted that they stand, how many greatest factors in a row had no
+    certificate, motions that no bearing resists, and at which scales forces were found. Where no certificate is kept
+    they needn't be the least.""" table: str | None = None
     dead: Amounts | None = None
     inner: Inner | None = None
     short: Forces | None = None

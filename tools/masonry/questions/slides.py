@@ -168,4 +168,4 @@ def slides(name: str, wanted: Fraction | None, every: bool, progress: Telling) -
     for thrust in first.thrusts:
         print(thrust.said())
     if not every:
-        print("this joint is enough for the factor to be an upper bound alone; `all` asks about every joint")
+        print("one joint is enough: the factor is an upper bound alone. Others may slide sooner: `all` asks about each")
