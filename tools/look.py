@@ -3,11 +3,11 @@
 
     tools/look.py MODEL [NEAR [UNIT]]
 
-Nothing here is proved. NEAR is a distance in units of the grid, 1 if you don't give it. UNIT is what a force of 1 of the
-structure is in kN: with it weights and loads are in kN. The lines:
+Nothing here is proved. NEAR is a distance in units of the grid, 1 if you don't give it. UNIT is what a force of 1 of
+the structure is in kN: with it weights and loads are in kN. The lines:
 
-    multiplied forces N    all forces of this model are N times those of the structure, as its first line says. With UNIT
-                           weights and loads are divided by N, and the line isn't there
+    multiplied forces N    all forces of this model are N times those of the structure, as its first line says. With
+                           UNIT weights and loads are divided by N, and the line isn't there
     multiplied lengths N   all lengths are N times those of the structure: places, areas and NEAR are those of the model
     off A X Y GAP          a load on A acts at (X, Y), beside A, at this distance from it; less than 2 isn't told
     near A B X Y GAP       the corner (X, Y) of A lies within NEAR of an edge of B, on which A doesn't bear

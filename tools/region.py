@@ -1,7 +1,7 @@
 #!/usr/bin/env python3
 """Reads the region of two live loads: its points, its bounds, and where to ask next.
 
-    tools/region.py MODEL I J DIRS [kN FORCE] [csv]
+    tools/region.py MODEL I J DIRS [kN FORCE] [all] [csv]
 
 Nothing here is proved, but each point and each half-plane is that of an answer of the program, or has a certificate
 that `check` accepts. The factors of I and J are a and b. I and J are the numbers of live loads, such as 3; or groups of
@@ -29,7 +29,8 @@ and no load at all span, or if the direction is unlimited. It is `near` if the s
 or of the side as far as a thousand times the size of the greatest corner, and `open` otherwise.
 
 The lines `dir` are the directions to ask next: towards the corners that aren't carried, and along the sides that go on.
-So this loop adds them until there are none:
+With `all` the script asks them too, and those that they name, until there are none. Each direction is asked once. This
+loop does the same, and leaves them in DIRS, but asks all of them again each time:
 
     while tools/region.py MODEL I J DIRS | grep '^dir ' >>DIRS; do :; done
 
@@ -276,6 +277,12 @@ def lines_of(region: Region, sizes: Sizes = Sizes()) -> Iterator[Line]:
                     "settled to a thousandth" if Word.NEAR in words else "settled",))
 
 
+def named(region: Region) -> list[Direction]:
+    """The directions that the lines of a region name to ask next."""
+    lines = (line.first for line in lines_of(region))
+    return [(int(str(m)), int(str(n))) for word, m, n in (first for first in lines if first[0] == "dir")]
+
+
 def sizes_of(words: list[str], force: Fraction) -> Sizes:
     """What the factors are multiplied by, where a force of 1 of the structure has this size."""
     pair = pairs.pair_of(*words[:3])
@@ -288,12 +295,14 @@ def asked(words: list[str]) -> int:
     options, force = words[4:], None
     if len(words) > 5 and words[4] == "kN":
         options, force = words[6:], decimal(words[5], "FORCE", LEAST)
-    if len(words) < 4 or options not in ([], ["csv"]):
-        raise Words("the form is MODEL I J DIRS [kN FORCE] [csv], without m LENGTH: a region has no lengths")
+    if len(words) < 4 or options not in ([], ["csv"], ["all"], ["all", "csv"]):
+        raise Words("the form is MODEL I J DIRS [kN FORCE] [all] [csv], without m LENGTH: a region has no lengths")
     with Progress("region") as progress:
         region = region_of(words[0], words[1], words[2], words[3], progress)
+        while "all" in options and (directions := named(region)):
+            pairs.extend(region, (words[0], words[1], words[2]), directions, progress)
     for line in lines_of(region, sizes_of(words, force) if force else Sizes()):
-        print(line.listed() if options else line.laid_out())
+        print(line.listed() if "csv" in options else line.laid_out())
     return 0
 
 

@@ -8,7 +8,7 @@
     tools/solve.py MODEL between CERT tie A X Y B U V [N D]
     tools/solve.py MODEL between CERT prop A X Y U V [N D]
     tools/solve.py MODEL stages CERT ORDER
-    tools/solve.py MODEL slides [N D]
+    tools/solve.py MODEL slides [N D] [all]
     tools/solve.py MODEL friction CERT [N D]
 
 Nothing here is proved: only the `accepted` of `check` counts, and nothing is announced that `check` didn't accept.
@@ -40,10 +40,12 @@ refuses, and of one that collapses, has its model in CERT-K.toml and its certifi
 
 `slides` asks whether any joint can slide at a factor from 0 to N/D, or to the collapse load factor if that is less or
 no N/D is given. It looks at all pressing forces that balance the loads, whatever the friction. A joint can slide if in
-some of them |T| is at least the friction times N, also if both are 0. For each that can, a line says between which
-factors, and with which N and T at the least of these; then come all joints at the least factor of all. Or the line is
-`no joint can slide`. Then the factor is no mere upper bound: docs/scope.md. This has no certificate; the script checks
-in fractions the dual numbers that close each of its linear programs.
+some of them |T| is at least the friction times N, also if both are 0. The script stops at the first joint that it
+finds, since one is enough for the factor to be an upper bound alone; others may slide from lower factors on, and with
+`all` it asks about every joint. For each that can slide, a line says between which factors, and with which N and T at
+the least of these; then come all joints at the least factor of all. Or the line is `no joint can slide`. Then the
+factor is no mere upper bound: docs/scope.md. This has no certificate; the script checks in fractions the dual numbers
+that close each of its linear programs.
 
 `friction` asks how much friction is needed, under N/D of the live loads and of the sway, none if not given: for a share
 of all coefficients with which the structure stands, and a lesser one with which it falls. They are within a thousandth
@@ -141,12 +143,13 @@ def wide_stages(name: str, words: list[str], progress: Progress) -> int:
 
 
 def wide_slides(name: str, words: list[str], progress: Progress) -> int:
-    counted(words, "slides [N D]", 0, 2)
+    every = words[-1:] == ["all"]
+    words = counted(words[:-1] if every else words, "slides [N D] [all]", 0, 2)
     wanted = fraction(words[0], words[1]) if words else None
     if wanted is not None and wanted < 0:
         raise Words("N must be at least 0")
     accepted(name)
-    slides.slides(name, wanted, progress)
+    slides.slides(name, wanted, every, progress)
     return 0
 
 

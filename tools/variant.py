@@ -46,7 +46,7 @@ from collections.abc import Callable
 from dataclasses import dataclass, replace
 from fractions import Fraction
 
-from masonry.console import Refused, Words, ran, shown
+from masonry.console import Refused, Words, plain, ran, shown
 from masonry.inset import inset
 from masonry.model import COORDINATE, FORCE, LOADS, Load, Model, bearings_of, multiple, printed, read, share, text_of
 from masonry.numbers import decimal, whole
@@ -90,8 +90,8 @@ def with_load(name: str, words: list[str]) -> Model:
     u, v = (whole(word, called, -FORCE, FORCE) for word, called in zip(words[4:], ("FX", "FY")))
     model, scale = read(name), scale_of(text_of(name))
     if scale != Scale():
-        raise Refused(f"{name}: its first line says that forces or lengths are multiplied, so (X, Y) and (FX, FY) would "
-                      "be others than those of the structure: add the load before you multiply")
+        raise Refused(f"{plain(name)}: its first line says that forces or lengths are multiplied, so (X, Y) and "
+                      "(FX, FY) would be others than those of the structure: add the load before that")
     if block not in (one.name for one in model.free_blocks()):
         raise Refused(f"no free block is named {shown(block)}")
     if len(model.loads) == LOADS:

@@ -202,9 +202,9 @@ def with_loads(model: Model, laid: Laid) -> tuple[Model, Scale, list[str]]:
         raise Refused(f"{len(own) + len(listed)} loads, more than {LOADS}")
     if times > 1 and (max([abs(part) for load in own for part in load.force], default=0) > FORCE
                       or max(times * one.weight for one in model.materials) > WEIGHT):
-        part = max(laid.rounded(kind) for kind in KINDS)
-        raise Refused(f"rounding changes the forces of a kind by {100 * part:.2g} %, and multiplied by {times} a weight "
-                      "or a force of the model passes its limit: take another unit of force")
+        part = 100 * max(laid.rounded(kind) for kind in KINDS)
+        raise Refused(f"rounding changes the forces of a kind by {part:.2g} %, and multiplied by {times} a weight or a "
+                      "force of the model passes its limit: take another unit of force")
     lines = [f"sum {kind} {number(across_, 0)} {number(up, 0)}" for kind in KINDS
              for across_, up in [total(listed, kind, times)] if any(load.kind == kind for load in listed)]
     if times > 1:

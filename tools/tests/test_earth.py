@@ -314,8 +314,9 @@ class Fills(unittest.TestCase):
         self.assertEqual(with_loads(model, laid_)[1], Scale())
         laid_.add("c1", "live", (Fraction(0), Fraction(7)), (7.75, 0.0))
         made, scale, lines = with_loads(model, laid_)
-        self.assertEqual((scale.line(), made.materials[0].weight, made.loads[0].force, [one.force for one in made.loads[1:]]),
-                         ("# All forces are multiplied by 20, all lengths by 1.\n", 440, [40, -60], [[60006, 0], [155, 0]]))
+        self.assertEqual(scale.line(), "# All forces are multiplied by 20, all lengths by 1.\n")
+        self.assertEqual((made.materials[0].weight, [one.force for one in made.loads]),
+                         (440, [[40, -60], [60006, 0], [155, 0]]))
         self.assertEqual(lines[:2], ["sum dead 3000.3 0", "sum live 7.75 0"])
         self.assertIn("multiplied by 20,", lines[2])
         heavy = replace(model, materials=[replace(model.materials[0], weight=10**5)])

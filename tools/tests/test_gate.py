@@ -56,8 +56,8 @@ class Runs(unittest.TestCase):
         self.assertEqual(self.called("mypy"), [f"{INSTALL} qsopt-ex", "gate"])
 
     def test_its_lists_are_brought_up_to_date_if_need_be(self) -> None:
-        self.assertEqual(self.called(installs="late"), [f"{INSTALL} mypy qsopt-ex", "update", f"{INSTALL} mypy qsopt-ex",
-                                                        "gate"])
+        both = f"{INSTALL} mypy qsopt-ex"
+        self.assertEqual(self.called(installs="late"), [both, "update", both, "gate"])
 
     def test_the_gate_runs_if_nothing_can_be_installed(self) -> None:
         self.assertEqual(self.called(installs="no", updates="1"), [f"{INSTALL} mypy qsopt-ex", "update", "gate"])

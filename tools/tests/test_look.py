@@ -99,7 +99,8 @@ touch 1 post pier 4 4
         stone = box("c5", 0, 0, 320, 80)
         loads = [Load("c5", "live", at, [1, 0]) for at in ([4, 400], [4, 40], [320, 80], [0, 7], [321, 80], [4, 400])]
         loads += [Load("c5", "dead", [323, 84], [0, -1])]  # 3 and 4 off the corner
-        model = Model(None, None, [Material("stone", 1, [1, 2])], [], [stone, box("ground", -9, -9, 400, 0, True)], loads)
+        blocks = [stone, box("ground", -9, -9, 400, 0, True)]
+        model = Model(None, None, [Material("stone", 1, [1, 2])], [], blocks, loads)
         self.assertEqual(list(look.off_blocks(model, 2)), ["off c5 4 400 320", "off c5 323 84 5"])
         self.assertEqual(list(look.off_blocks(model, 6)), ["off c5 4 400 320"])
         clockwise = replace(model, blocks=[replace(stone, corners=[*stone.corners][::-1])])

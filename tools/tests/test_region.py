@@ -8,7 +8,7 @@ They call the program, and `esolver` where the program is made to refuse.
 import contextlib
 import io
 import unittest
-from collections.abc import Iterable, Mapping, Sequence
+from collections.abc import Callable, Iterable, Mapping, Sequence
 from fractions import Fraction
 from pathlib import Path
 from tempfile import TemporaryDirectory
@@ -161,6 +161,32 @@ class Groups(unittest.TestCase):
             self.assertEqual(region.main([self.name, "1,3", "4", self.dirs, "kN", "0.5"]), 0)
         # Together the two pushes are 2, so a force of 4/3 of them is 4/3 kN.
         self.assertEqual(out.getvalue().splitlines()[0], "point 1 0 at 4/3 0/1 = 1.33333 0")
+
+    def test_all_asks_each_direction_once_and_ends_as_the_loop_does(self) -> None:
+        for i, j in ("1,3", "4"), ("1", "4"):
+            self.found(i, j, (1, 0))
+            asked, real = list[Direction](), pairs.extend
+
+            def counted(found: Region, words: tuple[str, str, str], directions: Sequence[Direction],
+                        progress: Callable[[str], None]) -> None:
+                asked.extend(directions)
+                real(found, words, directions, progress)
+
+            with mock.patch.object(pairs, "extend", counted):
+                at_once = self.printed(i, j, "all")
+            self.assertEqual(len(set(asked)), len(asked))
+            lines = self.printed(i, j)
+            while more := [line for line in lines if line.startswith("dir ")]:
+                with open(self.dirs, "a", encoding="ascii") as file:
+                    file.write("".join(f"{line}\n" for line in more))
+                lines = self.printed(i, j)
+            self.assertEqual((sorted(at_once), at_once[-1]), (sorted(lines), "settled"))
+            self.assertGreater(len(asked), 1)
+
+    def printed(self, i: str, j: str, *options: str) -> list[str]:
+        with contextlib.redirect_stdout(io.StringIO()) as out:
+            self.assertEqual(region.main([self.name, i, j, self.dirs, *options]), 0)
+        return out.getvalue().splitlines()
 
     def test_a_region_has_no_lengths(self) -> None:
         with contextlib.redirect_stderr(io.StringIO()) as err:

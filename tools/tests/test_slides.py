@@ -7,6 +7,7 @@ import random
 import unittest
 from dataclasses import replace
 from fractions import Fraction
+from unittest import mock
 
 from helpers import Asked, at_random, example, needs_esolver as setUpModule, post
 
@@ -18,7 +19,7 @@ from reference_lp import Lacks
 
 class Slides(Asked):
     def joints(self, model: Model, *words: str) -> list[str]:
-        return [" ".join(line.split()[1:3]) for line in self.solved(model, "slides", *words)
+        return [" ".join(line.split()[1:3]) for line in self.solved(model, "slides", *words, "all")
                 if line.startswith("joint") and " can " in line]
 
     def rough(self, model: Model, friction: models.Point) -> Model:
@@ -44,6 +45,29 @@ class Slides(Asked):
         held = example("posts/post-on-a-gripped-stone")
         for friction in [7, 10], [1000, 1]:
             self.assertEqual(set(self.joints(self.rough(held, friction))), {"left-jamb stone", "right-jamb stone"})
+
+    def test_the_first_joint_is_enough(self) -> None:
+        """Of the two joints that can slide one is named, which is the first in the other order as well; and where none
+        can, each is asked about."""
+        held = example("posts/post-on-a-gripped-stone")
+        first, every = self.solved(held, "slides"), self.solved(held, "slides", "all")
+        named = [line for line in first if " can " in line]
+        self.assertEqual((len({tuple(line.split()[1:3]) for line in named}), len(named)), (1, 1))
+        self.assertIn(named[0], every)
+        self.assertTrue(first[-1].startswith("one joint is enough"), first)
+        asked = list[int]()
+        real = slides.Pressing.slide
+
+        def counted(pressing: slides.Pressing, j: int, sign: int) -> slides.Slide | None:
+            asked.append(j)
+            return real(pressing, j, sign)
+
+        with mock.patch.object(slides.Pressing, "slide", counted):
+            self.solved(held, "slides")
+            self.assertLessEqual(len(asked), 2)
+            asked.clear()
+            self.solved(example("arches/footbridge"), "slides")
+        self.assertEqual(sorted(asked), [j for j in range(8) for _ in "ab"])
 
     def test_a_joint_at_its_limit_can_slide(self) -> None:
         # The post of 8 slides at 8 times its friction, and tips at twice the push: with 1/4 it can slide at 2.

@@ -84,7 +84,7 @@ class Places(Asked):
 
     def test_a_folder_that_is_missing_is_not_told_as_a_missing_esolver(self) -> None:
         models.write(self.name, example("walls/corbel"))
-        for folder, wanted in (f"{self.folder}/nowhere", "nowhere"), ("/proc", "Permission denied|No such file|Read-only"):
+        for folder, wanted in (f"{self.folder}/nowhere", "nowhere"), ("/proc", "denied|No such file|Read-only"):
             err = io.StringIO()
             with mock.patch.object(tempfile, "tempdir", folder), contextlib.redirect_stderr(err):
                 self.assertEqual(solve.main([self.name, "stand", self.cert]), 70)

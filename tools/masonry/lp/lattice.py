@@ -273,7 +273,8 @@ DRAWS, SIGNS = random.Random(0), list[list[int]]()
 def signs(unknown: int) -> list[int]:
     """The signs drawn for an unknown, the same in all lattices."""
     while len(SIGNS) <= unknown:
-        SIGNS.append([DRAWS.choice((-1, 1)) for _ in range(SHADOW)])
+        drawn = DRAWS.getrandbits(SHADOW)
+        SIGNS.append([1 if drawn >> k & 1 else -1 for k in range(SHADOW)])
     return SIGNS[unknown]
 
 

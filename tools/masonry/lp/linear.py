@@ -12,6 +12,7 @@ from masonry.statics import NotFound, Structure
 
 
 Amounts = dict[int, Fraction]
+ENOUGH = Fraction(1, 100)  # ten times the room for rounding, since an inset is a thousand times the least
 
 
 def balance(structure: Structure, edges: Iterable[int], rest: Sequence[int],
@@ -74,6 +75,13 @@ def raised(structure: Structure) -> Raised:
     return Raised(found.value("t"), lowest(found.duals), amounts_of(found, edges))
 
 
+def carried(structure: Structure, load: Sequence[int]) -> Amounts | None:
+    """Forces that carry a load, at a corner of their polytope; None where there are none."""
+    edges = range(len(structure.edges))
+    found = Program({}, balance(structure, edges, load, {})).best()
+    return amounts_of(found, edges) if isinstance(found, Found) else None
+
+
 @dataclass(frozen=True)
 class Inner:
     """Forces far inside their cones: amounts of the edges that are of use, and the factor of the live loads."""
@@ -86,8 +94,9 @@ def inner(structure: Structure, rest: Sequence[int], live: Sequence[int] | None 
     """Forces far inside their cones that carry a rest, and with it a factor of live loads, up to `top`, where these are
     given. None where no forces carry the rest.
 
-    Each edge has its inset times one amount and more; this amount is made as great as it can be. Where it stays 0, some
-    edges are of no use, and another program finds them.
+    Each edge has its inset times one amount and more; this amount is made as great as it can be, up to what is enough:
+    more would take esolver far longer, and save a certificate few bits. Where it stays 0, some edges are of no use, and
+    another program finds them.
     """
     edges = range(len(structure.edges)) if edges is None else edges
     inset = [0] * len(rest)
@@ -95,7 +104,7 @@ def inner(structure: Structure, rest: Sequence[int], live: Sequence[int] | None 
         for row, amount in structure.edges[k].column.items():
             inset[row] += structure.edges[k].inset * amount
     more: dict[str, Sequence[int]] = {"m": inset, **({"t": live} if live else {})}
-    bounds: dict[str, tuple[Exact, Exact]] = {"m": (0, max((abs(amount) for amount in rest), default=0) + 1)}
+    bounds: dict[str, tuple[Exact, Exact]] = {"m": (0, ENOUGH)}
     if top is not None:
         bounds["t"] = (0, top)
     found = Program({"m": 1}, balance(structure, edges, rest, more), bounds).best()

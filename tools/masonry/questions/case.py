@@ -14,7 +14,8 @@ from masonry.console import Refused, quiet
 from masonry.lp import linear
 from masonry.lp.linear import Amounts, Inner, Opening, Raised
 from masonry.lp.programs import NoAnswer
-from masonry.lp.short_certificates import Forces, Tried, forces_lines, motion_lines, short_forces, short_motion
+from masonry.lp.short_certificates import (Forces, NoForces, Tried, exact_forces, forces_lines, motion_lines,
+                                           refute_all, short_forces, short_motion)
 from masonry.model import Model
 from masonry.numbers import nine_digits, ratio, simplest
 from masonry.questions.results import Collapses, Greatest, Loaded, Shares, Standing, Stands, Unlimited
@@ -42,11 +43,12 @@ def bits(lines: Sequence[str]) -> int:
 
 @dataclass
 class Known:
-    """What cases with the same bodies and dead loads share: the table of contacts, forces for these loads and short
-    ones, whether it is accepted that they stand, how many greatest factors in a row had no certificate, motions that no
-    bearing resists, and at which scales forces were found. Where no certificate is kept they needn't be the least."""
-    table: str | None = None
-    dead: Inner | None = None
+    """What cases with the same bodies and dead loads share: the table of contacts, forces for these loads, some far
+    inside their cones and short ones, whether it is accepted that they stand, how many greatest factors in a row had no
+    certificate, motions that no bearing resists, and at which scales forces were found. Where no certificate is kept
+    they needn't be the least.""" table: str | None = None
+    dead: Amounts | None = None
+    inner: Inner | None = None
     short: Forces | None = None
     stands: bool = False
     misses: int = 0
@@ -142,33 +144,44 @@ class Case:
         self.voice.say("collapses accepted")
         return Collapses(motion)
 
-    def short_dead(self, dead: Inner) -> Forces:
+    def dead_forces(self) -> Amounts | None:
+        """Forces that carry the dead loads, at a corner of their polytope; None where there are none."""
+        if self.known.dead is None:
+            self.progress("forces for the dead loads")
+            self.known.dead = linear.carried(self.structure, self.structure.dead)
+        return self.known.dead
+
+    def inner_dead(self) -> Inner:
+        """Forces for the dead loads far inside their cones."""
+        if self.known.inner is None:
+            self.progress("forces inside the cones for the dead loads")
+            self.known.inner = linear.inner(self.structure, self.structure.dead)
+        if self.known.inner is None:
+            raise NotFound("no forces for the dead loads were found")
+        return self.known.inner
+
+    def short_dead(self, dead: Amounts) -> Forces:
         if self.known.short is None:
-            self.known.short = short_forces(self.structure, dead.amounts, self.structure.dead)
+            self.known.short = exact_forces(self.structure, dead) or short_forces(
+                self.structure, self.inner_dead().amounts, self.structure.dead)
         return self.known.short
 
-    def stands(self, dead: Inner) -> Stands:
+    def stands(self, dead: Amounts) -> Stands:
         scale, parts = self.short_dead(dead)
         self.accepted(self.name, self.cert, ["stands", *forces_lines(scale, 0, parts)])
         self.voice.say("stands accepted")
         return Stands()
 
-    def dead_forces(self) -> Inner | None:
-        if self.known.dead is None:
-            self.progress("forces for the dead loads")
-            self.known.dead = linear.inner(self.structure, self.structure.dead)
-        return self.known.dead
-
-    def live_forces(self) -> Inner | None:
+    def live_forces(self) -> Amounts | None:
         """Forces for the live loads alone. There are none if these gain power on a motion that no bearing resists."""
         if any(work(self.structure.live, motion) > 0 for motion in self.known.motions):
             return None
         self.progress("the live loads alone")
-        return linear.inner(self.structure, self.structure.live)
+        return linear.carried(self.structure, self.structure.live)
 
     def stand(self) -> Standing:
         dead = self.dead_forces()
-        return self.stands(dead) if dead else self.collapse()
+        return self.collapse() if dead is None else self.stands(dead)
 
     def load(self) -> Loaded:
         dead = self.dead_forces()
@@ -190,13 +203,19 @@ class Case:
                 self.voice.note(f"solve: no certificate of the greatest factor, about {about}: {fault}")
         return self.shares(top, dead)
 
-    def unbounded(self, dead: Inner, live: Inner) -> Unlimited:
+    def unbounded(self, dead: Amounts, live: Amounts) -> Unlimited:
         scale, parts = self.short_dead(dead)
-        factor, ray = short_forces(self.structure, live.amounts, self.structure.live, self.known.tried.get("ray"))
+        factor, ray = exact_forces(self.structure, live) or self.short_ray()
         lines = ["unbounded", *forces_lines(scale, 0, parts), *forces_lines(0, factor, ray)]
         self.accepted(self.name, self.cert, lines)
         self.voice.say("unbounded accepted")
         return Unlimited()
+
+    def short_ray(self) -> Forces:
+        live = linear.inner(self.structure, self.structure.live)
+        if live is None:
+            raise NotFound("no forces for the live loads were found")
+        return short_forces(self.structure, live.amounts, self.structure.live, self.known.tried.get("ray"))
 
     def greatest(self, top: Raised) -> Greatest:
         """The certificate of the factor itself. No edge on which the motion gains power is in use there, and so all
@@ -205,32 +224,47 @@ class Case:
         if max(n, d, *(abs(part) for part in motion)) > GREATEST:
             raise NotFound("the factor or its motion is longer than 127 bits")
         self.progress("forces at the greatest factor")
-        edges = [k for k, edge in enumerate(structure.edges) if not work(edge.column, motion)]
-        found = linear.inner(structure, structure.dead, structure.live, None, edges)
-        if found is None:
-            raise NotFound("no forces at the greatest factor were found")
-        scale, parts = short_forces(structure, {k: d * x for k, x in found.amounts.items()}, structure.loads(d, n),
-                                    self.known.tried.get("greatest"))
+        exact = exact_forces(structure, {k: d * x for k, x in top.amounts.items()}, max(n, d))
+        scale, parts = exact or self.short_greatest(top)
         lines = ["greatest", *forces_lines(scale * d, scale * n, parts), *motion_lines(motion)]
         self.accepted(self.name, self.cert, lines)
         return self.told(Greatest(top.factor, motion))
 
+    def short_greatest(self, top: Raised) -> Forces:
+        structure, n, d = self.structure, top.factor.numerator, top.factor.denominator
+        edges = [k for k, edge in enumerate(structure.edges) if not work(edge.column, top.motion)]
+        found = linear.inner(structure, structure.dead, structure.live, None, edges)
+        if found is None:
+            raise NotFound("no forces at the greatest factor were found")
+        return short_forces(structure, {k: d * x for k, x in found.amounts.items()}, structure.loads(d, n),
+                            self.known.tried.get("greatest"))
+
     # Shares
 
-    def shares(self, top: Raised, dead: Inner) -> Shares:
+    def shares(self, top: Raised, dead: Amounts) -> Shares:
         """That the dead loads stand, and a share on each side of the factor."""
+        carried = None
         try:
             if not self.known.stands:
                 self.stands(dead)
                 self.known.stands = True
         except (NotFound, ArithmeticError) as fault:
             self.lacks("a certificate that the dead loads stand", fault)
-        self.progress("forces inside the cones below the factor")
-        inside = linear.inner(self.structure, self.structure.dead, self.structure.live, top.factor)
-        below = [Inner(dead.amounts, Fraction(0)), *([inside] if inside else []), Inner(top.amounts, top.factor)]
-        carried = self.nearest("carried", top.factor, lambda gap: (self.carried(top.factor, below, gap), None))
+        try:
+            refute_all(self.structure)
+            carried = self.nearest("carried", top.factor, self.carried_below(top))
+        except NoForces as fault:
+            self.lacks("a share carried", fault)
         beyond = self.nearest("beyond", top.factor, lambda gap: self.beyond(top, gap))
         return Shares(carried and carried[0], beyond and beyond[0], beyond and beyond[1], self.known.stands)
+
+    def carried_below(self, top: Raised) -> Callable[[Fraction], tuple[Fraction, None]]:
+        """What settles a share at a distance below the factor, between forces at factors up to it."""
+        self.progress("forces inside the cones below the factor")
+        inside = linear.inner(self.structure, self.structure.dead, self.structure.live, top.factor)
+        below = [Inner(self.inner_dead().amounts, Fraction(0)), *([inside] if inside else []),
+                 Inner(top.amounts, top.factor)]
+        return lambda gap: (self.carried(top.factor, below, gap), None)
 
     def lacks(self, what: str, fault: Exception) -> None:
         self.voice.note(f"solve: {what} wasn't found: {fault}")

@@ -160,23 +160,33 @@ def directions_of(name: str) -> list[Direction] | None:
 def region_of(name: str, i: str, j: str, dirs: str, progress: Telling) -> Region:
     """The region in the directions of a file."""
     directions, region = directions_of(dirs), Region()
-    alone = not (i + j).count(",") and "sway" not in (i, j)
     if directions is None:
-        if alone:
+        if is_of_loads(i, j):
             program.answer("yield", name, i, j, dirs)
         raise Refused(f"{dirs}: each line must be `dir M N` with whole numbers, not both 0, and its line feed")
-    taken = [one for one in directions if max(abs(one[0]), abs(one[1])) <= YIELD][:LINES] if alone else []
-    wide = yielded(region, (name, i, j), taken) if taken else {}
+    extend(region, (name, i, j), directions, progress)
+    return region
+
+
+def is_of_loads(i: str, j: str) -> bool:
+    """Whether both are numbers of loads, so that the program's `yield` answers."""
+    return not (i + j).count(",") and "sway" not in (i, j)
+
+
+def extend(region: Region, words: tuple[str, str, str], directions: Sequence[Direction], progress: Telling) -> None:
+    """Asks in more directions. What is known stays, and isn't asked again."""
+    order = {direction: number for number, direction in enumerate([*region.points, *region.unlimited, *directions])}
+    can = [one for one in directions if max(abs(one[0]), abs(one[1])) <= YIELD][:LINES]
+    taken = can if is_of_loads(*words[1:]) else []
+    wide = yielded(region, words, taken) if taken else {}
     rest = {**{one: "" for one in directions if one not in taken}, **wide}
     if rest:
-        pair = pair_of(name, i, j)
+        pair = pair_of(*words)
         for direction, reason in rest.items():
             progress(f"the direction {direction[0]} {direction[1]}")
             settled(region, pair, direction, reason)
-        order = {direction: number for number, direction in enumerate(directions)}
         region.points = dict(sorted(region.points.items(), key=lambda item: order[item[0]]))
         region.unlimited.sort(key=lambda direction: order[direction])
-    return region
 
 
 def yielded(region: Region, words: tuple[str, str, str], directions: Sequence[Direction]) -> dict[Direction, str]:

@@ -11,6 +11,7 @@ import tempfile
 from collections.abc import Iterator
 from dataclasses import dataclass
 from fractions import Fraction
+from itertools import islice
 from math import hypot
 from pathlib import Path
 
@@ -108,9 +109,23 @@ class Pressing:
         way = float(presses[1] / total) if len(numbers) == 2 and total else None
         return Thrust(first, second, float(total) * size, float(found.value(f"s{j}")) * size, way)
 
+    def suspects(self) -> list[int]:
+        """The joints, those first that are nearest to a slide in some forces that balance the loads: with the least of
+        p*N - q*T for both ways, for the length of their tangents."""
+        found = self.program({}, []).best()
+        if not isinstance(found, Found):
+            return [*range(len(self.joints))]
+        rooms = []
+        for j, (_, numbers) in enumerate(self.joints):
+            bearing = self.structure.bearings[numbers[0]]
+            press = bearing.p * sum(found.value(f"n{k}") for k in numbers)
+            rooms.append(float(press - bearing.q * abs(found.value(f"s{j}"))) * hypot(*bearing.tangent) / bearing.q)
+        return sorted(range(len(self.joints)), key=lambda j: rooms[j])
+
     def slides(self, progress: Telling) -> Iterator[Slide]:
-        for j, ((first, second), _) in enumerate(self.joints):
-            progress(f"the joint of {first} and {second}, {j + 1} of {len(self.joints)}")
+        for count, j in enumerate(self.suspects(), 1):
+            (first, second), _ = self.joints[j]
+            progress(f"the joint of {first} and {second}, {count} of {len(self.joints)}")
             for sign in 1, -1:
                 if found := self.slide(j, sign):
                     yield found
@@ -129,8 +144,9 @@ def reach(case: Case) -> tuple[bool, Fraction | None]:
     return True, top
 
 
-def slides(name: str, wanted: Fraction | None, progress: Telling) -> None:
-    """Asks about a model, up to a factor, or up to its collapse load factor."""
+def slides(name: str, wanted: Fraction | None, every: bool, progress: Telling) -> None:
+    """Asks about a model, up to a factor, or up to its collapse load factor: until one joint is found that can slide,
+    or about every joint."""
     with tempfile.TemporaryDirectory() as folder:
         case = Case(name, str(Path(folder, "answer.cert")), progress, voice.Plain())
         structure = case.structure
@@ -139,7 +155,8 @@ def slides(name: str, wanted: Fraction | None, progress: Telling) -> None:
         return
     if wanted is not None:
         top = wanted if top is None else min(top, wanted)
-    found = list(Pressing(structure, top).slides(progress))
+    sliding = Pressing(structure, top).slides(progress)
+    found = sorted(sliding if every else islice(sliding, 1), key=lambda one: one.joint)
     for one in found:
         print(one.said())
     until = "at any factor from 0 on" if top is None else f"from 0 to {number(top)}"
@@ -150,3 +167,5 @@ def slides(name: str, wanted: Fraction | None, progress: Telling) -> None:
     print(f"forces at {number(first.least)}")
     for thrust in first.thrusts:
         print(thrust.said())
+    if not every:
+        print("one joint is enough: the factor is an upper bound alone. Others may slide sooner: `all` asks about each")
