@@ -46,7 +46,8 @@ class Known:
     """What cases with the same bodies and dead loads share: the table of contacts, forces for these loads, some far
     inside their cones and short ones, whether it is accepted that they stand, how many greatest factors in a row had no
     certificate, motions that no bearing resists, and at which scales forces were found. Where no certificate is kept
-    they needn't be the least.""" table: str | None = None
+    they needn't be the least."""
+    table: str | None = None
     dead: Amounts | None = None
     inner: Inner | None = None
     short: Forces | None = None
