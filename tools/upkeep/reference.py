@@ -27,16 +27,16 @@ PAGES = {"calls": "docs/calls.md", "definitions": "docs/cited.md"}
 HEADS = {
     "calls": """# What each crate lends
 
-Printed from the sources by tools/upkeep/reference.py, and compared with them by the gate: change the comments there, and
-not this page. [contracts.md](contracts.md) has what the clauses say as a whole. A clause without a name is the only one
-of its function. A *law* is a function that does nothing. Conditions stand behind "needs".
+Printed from the sources by tools/upkeep/reference.py, and compared with them by the gate: change the comments there,
+and not this page. [contracts.md](contracts.md) has what the clauses say as a whole. A clause without a name is the only
+one of its function. A *law* is a function that does nothing. Conditions stand behind "needs".
 """,
     "definitions": """# The definitions that public clauses name
 
 Printed from the comments in crates/*/specs by tools/upkeep/reference.py, and compared with them by the gate: change the
 comments there, and not this page. [definitions.md](definitions.md) has the words. `tools/definitions.py CRATE NAME`
 prints a definition after all those on which it rests. Loads and sums are in sixths of a unit of force, points in units
-of the grid.
+of the grid. Below a record stand its fields that have a comment.
 """}
 ITEM = re.compile(r"( *)(?:pub )?(?:const )?fn (\w+)")
 CLAUSE = re.compile(r"(requires|ensures)(?: (\w+))? \{")
