@@ -127,10 +127,12 @@ class Lists(Made):
             "| `pushed` | Pushes a post. | needs a condition |"])
 
     def test_what_clauses_name(self) -> None:
-        """By their own names, with the head of a page for its first, the fields with a comment, and the record named."""
+        """By their own names: the head of a page for its first, fields with a comment, and the record that is named."""
         self.assertEqual(self.rows("definitions"), [
-            "## posts", "| Name | What it says | File |", "| `IsPushed` | What a push does to a post. | Pushed |",
-            "| - `way` | which way it goes | |", "| `force` | how hard | Pushed |", "| `Way` | one of two ways | Way |"])
+            "## posts", "| Name | What it says | File |",
+            "| `IsPushed` | What a push does to a post. | Pushed |",
+            "| - `way` | which way it goes | |", "| `force` | how hard | Pushed |",
+            "| `Way` | one of two ways | Way |"])
 
 
 class Compared(Made):

@@ -21,6 +21,7 @@ from dataclasses import dataclass, field
 from functools import cache
 from itertools import takewhile
 from pathlib import Path
+from textwrap import fill
 
 TOP = Path(__file__).resolve().parents[2]
 PAGES = {"calls": "docs/calls.md", "definitions": "docs/cited.md"}
@@ -155,7 +156,8 @@ def calls(top: Path) -> Iterator[str]:
     for crate, says in crates(top):
         found = lends(top, crate)
         if found:
-            yield f"## {crate}\n\n{says[:1].upper()}{says[1:]}.\n\n| Call | What it gives | Clauses |\n|---|---|---|"
+            said = fill(says[:1].upper() + says[1:] + ".", 120, break_long_words=False, break_on_hyphens=False)
+            yield f"## {crate}\n\n{said}\n\n| Call | What it gives | Clauses |\n|---|---|---|"
             for _, call in found:
                 needs = clauses(call.needs) or ("a condition" if call.needs else "")
                 told = "; ".join(it for it in (clauses(call.gives), needs and f"needs {needs}") if it)
