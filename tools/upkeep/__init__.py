@@ -1,0 +1,1 @@
+"""What keeps the repository: its build, its pages, its rules."""
