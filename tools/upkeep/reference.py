@@ -272,6 +272,7 @@ def main(asked: Sequence[str], top: Path = TOP) -> int:
              if not (top / name).exists() or (top / name).read_text() != page(top, kind)]
     if asked[0] == "write":
         for kind, name in PAGES.items():
+            (top / name).parent.mkdir(parents=True, exist_ok=True)
             (top / name).write_text(page(top, kind))
         return 0
     for name in wrong:
