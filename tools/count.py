@@ -212,7 +212,8 @@ def refusals(name: str) -> Iterator[str]:
     found = Counter((kind_of(reason), how_of(reason)) for reason in reasons)
     hows = [*dict(HOW), NO_PROOF]
     kinds = [kind for kind in (*dict(KINDS), "elsewhere") if any(found[kind, how] for how in hows)]
-    rows = [[kind, sum(found[kind, how] for how in hows), *(found[kind, how] for how in hows)] for kind in kinds]
+    rows: list[list[str | int]] = [[kind, sum(found[kind, how] for how in hows), *(found[kind, how] for how in hows)]
+                                   for kind in kinds]
     return table(("refused", "edits", *hows), rows)
 
 
