@@ -115,6 +115,9 @@ class Assessed(Asked):
         least = self.said(travel.main, self.name, "1")[-1]
         self.assertTrue(least.startswith("least at "), least)
         self.assertEqual(told, [[trials.rounded(float(least.split()[-1]))]])
+        # All together may want another place, or another block there: so no more is carried than without the word.
+        corners = self.rows(self.assessed(example("arches/footbridge")))
+        self.assertLessEqual(float(rows["together"][0]), float(corners["together"][0]))
 
     def test_what_falls_and_what_only_stands(self) -> None:
         lines = self.assessed(example("walls/corbel-without-a-tail"), status=1)

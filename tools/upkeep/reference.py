@@ -35,9 +35,9 @@ one of its function. A *law* is a function that does nothing. Conditions stand b
     "definitions": """# The definitions that public clauses name
 
 Printed from the comments in crates/*/specs by tools/upkeep/reference.py, and compared with them by the gate: change the
-comments there, and not this page. [definitions.md](definitions.md) has the words. `tools/upkeep/definitions.py CRATE NAME`
-prints a definition after all those on which it rests. Loads and sums are in sixths of a unit of force, points in units
-of the grid. Below a record stand its fields that have a comment.
+comments there, and not this page. [definitions.md](definitions.md) has the words. `tools/upkeep/definitions.py CRATE
+NAME` prints a definition after all those on which it rests. Loads and sums are in sixths of a unit of force, points in
+units of the grid. Below a record stand its fields that have a comment.
 """}
 ITEM = re.compile(r"( *)(?:pub )?(?:const )?fn (\w+)")
 CLAUSE = re.compile(r"(requires|ensures)(?: (\w+))? \{")

@@ -159,8 +159,8 @@ class Assessment:
         for family in changes.families(self.model, self.bearings, self.wishes()):
             asked = [(change, self.row(change.name, change.said, [change])) for change in family]
             told = self.worst_of([row for change, row in asked if change.travels])
-            self.families.append([(change, row) for change, row in asked if not change.travels or row in told])
-            self.rows += [row for _, row in self.families[-1]]
+            self.families.append(asked)
+            self.rows += [row for change, row in asked if not change.travels or row in told]
         if order := self.wanted.order:
             self.rows += self.worst_of([*self.stages("stage", order)])
         self.last = [row for side in range(len(self.sides)) if (row := self.together(side))]
@@ -180,23 +180,30 @@ class Assessment:
 
     def together(self, side: int) -> Row | None:
         """The worst of each family together, to one side. Then others take their places, one by one, if less is carried
-        so, or none, if no more is."""
+        so, or none, if no more is, until no one makes it less."""
         chosen = [self.worst(family, side) for family in self.families]
         if not any(chosen):
             return None
         with TemporaryDirectory() as folder:
-            least, end = self.asked_with(chosen, side, Path(folder)), time_limit.taken() + self.wanted.seconds
-            for k, family in enumerate(self.families):
-                for change in (None, *(one for one, row in family if one.joins and not row.why)):
-                    if change is chosen[k] or time_limit.taken() > end:
-                        continue
-                    other = [*chosen[:k], change, *chosen[k + 1:]]
-                    found = self.asked_with(other, side, Path(folder))
-                    if found < least or found == least and change is None:
-                        chosen, least = other, found
+            end, before = time_limit.taken() + self.wanted.seconds, list[Change | None]()
+            while chosen != before:
+                before, chosen = chosen, self.worse(chosen, side, Path(folder), end)
         made = [one for one in chosen if one]
         said = f"all together{', the other way' if side else ''}: " + "; ".join(one.said for one in made)
         return self.row("together", said, made, [side]) if len(made) > 1 else None
+
+    def worse(self, chosen: list[Change | None], side: int, folder: Path, end: float) -> list[Change | None]:
+        """These changes, with others in their places where less is carried so, up to a time."""
+        least = self.asked_with(chosen, side, folder)
+        for k, family in enumerate(self.families):
+            for change in (None, *(one for one, row in family if one.joins and not row.why)):
+                if change is chosen[k] or time_limit.taken() > end:
+                    continue
+                other = [*chosen[:k], change, *chosen[k + 1:]]
+                found = self.asked_with(other, side, folder)
+                if found < least or found == least and change is None:
+                    chosen, least = other, found
+        return chosen
 
     def worst(self, family: list[tuple[Change, Row]], side: int) -> Change | None:
         """The change of a family with which least is carried to a side, if that is no more than as drawn."""
