@@ -27,6 +27,7 @@ from masonry.lp.lattice import Lattice, Reduction, Step, Vector, grows, inverted
 from masonry.lp.programs import Found, Lacking, NoAnswer, Program, Row, Sign
 from masonry.model import Block, Load, Material, Model
 from masonry.questions.case import Case
+from masonry.units import Scale, scale_of
 
 
 class Lattices(unittest.TestCase):
@@ -294,6 +295,18 @@ class Rejections(Answers):
         self.assertEqual((status, [line.split()[0] for line in lines]), (0, ["stands", "carried", "beyond"]))
         self.assertEqual(left, {"answer.cert": "stands", "answer-carried.cert": "stands",
                                 "answer-beyond.cert": "collapses"})
+
+    def test_models_of_shares_say_by_what_forces_are_multiplied_in_all(self) -> None:
+        """By 3 in the file already, and by the denominator of the share, or a multiple: the weight was 1."""
+        self.draw("sway", "1", "0", "wall", "2", "2")
+        path = Path(self.name)
+        path.write_text(Scale(Fraction(3), 5).line() + path.read_text())
+        self.assertEqual(self.rejecting("greatest", 6, "load")[0], 0)
+        for word in "carried", "beyond":
+            name = path.with_name(f"answer-{word}.toml")
+            times = models.read(name).materials[0].weight
+            self.assertGreater(times, 1)
+            self.assertEqual(scale_of(name.read_text()), Scale(Fraction(3 * times), 5))
 
     def test_a_share_that_is_rejected_is_missing(self) -> None:
         self.draw("sway", "1", "0", "wall", "2", "2")
