@@ -66,6 +66,16 @@ class Ends(Asked):
                 "collapses accepted",
                 "between no factors: on the motion of this collapse the live loads do no work"])
 
+    def test_a_prop_under_a_sway(self) -> None:
+        # The post above, pushed to the left at its head with p: about the right foot 5p = 17.5 - 10, about the left one
+        # 5p = 17.5 + 10. At three times the share, 21/10, it is 52.5 in place of 17.5.
+        swaying, prop = post([], [1, 0], 5), ("prop", "post", "2", "5", "-1", "0")
+        self.assertEqual(self.solved(swaying, "between", self.cert, *prop, "7", "10")[-1],
+                         "between 3/2 = 1.5 and 11/2 = 5.5")
+        # At 21/10 the foot slides unless 21 - p is at most 10, so from 11 on.
+        self.assertEqual(self.solved(swaying, "between", self.cert, *prop, "21", "10")[-1],
+                         "between 11/1 = 11 and 25/2 = 12.5")
+
     def test_factors_where_0_is_not_carried_under_a_sway(self) -> None:
         # The post of 8 is pushed with 5 to the left at its head, dead: 20 about its left foot, where 8 steadies it. The
         # sway of 8 holds it from 16f = 12 on. At 8f = 5 + 8 it slides, before it tips at 16f = 28.

@@ -23,10 +23,10 @@ import earth
 from earth import Behind, Soil
 from masonry import fill, program
 from masonry.console import Refused, Words
-from masonry.model import Block, Load, Material, Model, printed, put, share, write
+from masonry.model import Block, Load, Material, Model, model_of, printed, put, share, write
 from masonry.open_faces import Laid, Side, open_pieces, split, with_loads
 from masonry.program import NOT_BUILT, built
-from masonry.units import Scale
+from masonry.units import Scale, scale_of
 
 GROUND = Block(name="ground", material="stone", fixed=True, corners=[[-900, -10], [900, -10], [900, 0], [-900, 0]])
 
@@ -343,6 +343,16 @@ class Fills(unittest.TestCase):
         with self.assertRaises(Refused):
             self.arch("spread", "1000", "35", "4", "1/2", "live")
 
+    def test_a_load_spreads_by_its_slope_to_each_side(self) -> None:
+        """A load at x = 10, 10 above two stones whose joint is at 12: with the slope 1/2 it reaches from 5 to 15, so
+        the first takes 7/10; 2 wide, from 4 to 16, 8/12."""
+        for width, part in ("0", 700), ("2", 1000 * 8 / 12):
+            model = wall([[0, -5], [12, -5], [12, 0], [0, 0]], [[12, -5], [40, -5], [40, 0], [12, 0]])
+            with mock.patch.object(fill, "answer"), mock.patch.object(fill, "read", lambda _: model):
+                made, scale, _ = fill.filled(["model", "0", "10", "spread", "1000", "10", width, "1/2", "live"])
+            taken = -sum(load.force[1] for load in made.loads if load.block == "c1")
+            self.assertAlmostEqual(taken / float(scale.forces) / part, 1, 2)
+
     def test_words_that_make_no_sense(self) -> None:
         for words in (["push"], ["push", "x"], ["spread", "1", "2", "3", "4", "5"], ["heap"],
                       ["spread", "1", "2", "0", "0", "live"]):
@@ -438,6 +448,21 @@ class Worked(unittest.TestCase):
                 factors.add(Fraction(int(factor), int(scale)) * Fraction(surcharge))
         for found in factors:
             self.assertAlmostEqual(float(found) / (16.56e6 / 15000), 1, 2)
+
+    def test_the_first_line_says_by_what_all_forces_are_multiplied(self) -> None:
+        """By 3, as the file says: kept. By 3 and, for a surcharge of 1/10, by more as well: the product."""
+        with TemporaryDirectory() as folder:
+            name = f"{folder}/wall.toml"
+            put(name, Scale(Fraction(3), 7).line() + printed(courses()))
+            for more in list[str](), ["dead", "0.1", "live"]:
+                with mock.patch.object(earth, "answer"), contextlib.redirect_stdout(io.StringIO()) as out, \
+                        contextlib.redirect_stderr(io.StringIO()):
+                    self.assertEqual(earth.main([name, "18", "30", "0", "0", "0", "300", *more]), 0)
+                made, times = model_of(out.getvalue()), 200 if more else 1
+                self.assertEqual(scale_of(out.getvalue()), Scale(Fraction(3 * times), 7))
+                self.assertEqual(made.materials[0].weight, 22 * times)
+                push = sum(load.force[0] for load in made.loads if load.kind == "dead")
+                self.assertAlmostEqual(push / (270000 * times), 1, 3)
 
     @unittest.skipUnless(built(), NOT_BUILT)
     def test_the_program(self) -> None:

@@ -46,6 +46,12 @@ class Slides(Asked):
         for friction in [7, 10], [1000, 1]:
             self.assertEqual(set(self.joints(self.rough(held, friction))), {"left-jamb stone", "right-jamb stone"})
 
+    def test_no_further_than_the_collapse_load_factor(self) -> None:
+        # The pushed post tips at 2, beyond which nothing presses it any more; it would slide at 8 times its friction.
+        pushed = self.rough(post([Load("post", "live", [0, 4], [1, 0])]), [1, 2])
+        for words, until in (["100", "1"], "2/1 = 2"), (["1", "1"], "1/1 = 1"):
+            self.assertEqual(self.solved(pushed, "slides", *words)[-1], f"no joint can slide from 0 to {until}")
+
     def test_the_first_joint_is_enough(self) -> None:
         """Of the two joints that can slide one is named, which is the first in the other order as well; and where none
         can, each is asked about."""

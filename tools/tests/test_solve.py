@@ -11,7 +11,7 @@ import io
 import math
 import random
 import unittest
-from collections.abc import Callable
+from collections.abc import Callable, Sequence
 from dataclasses import replace
 from fractions import Fraction
 from pathlib import Path
@@ -27,6 +27,7 @@ from masonry.lp.lattice import Lattice, Reduction, Step, Vector, grows, inverted
 from masonry.lp.programs import Found, Lacking, NoAnswer, Program, Row, Sign
 from masonry.model import Block, Load, Material, Model
 from masonry.questions.case import Case
+from masonry.units import Scale, scale_of
 
 
 class Lattices(unittest.TestCase):
@@ -295,6 +296,18 @@ class Rejections(Answers):
         self.assertEqual(left, {"answer.cert": "stands", "answer-carried.cert": "stands",
                                 "answer-beyond.cert": "collapses"})
 
+    def test_models_of_shares_say_by_what_forces_are_multiplied_in_all(self) -> None:
+        """By 3 in the file already, and by the denominator of the share, or a multiple: the weight was 1."""
+        self.draw("sway", "1", "0", "wall", "2", "2")
+        path = Path(self.name)
+        path.write_text(Scale(Fraction(3), 5).line() + path.read_text())
+        self.assertEqual(self.rejecting("greatest", 6, "load")[0], 0)
+        for word in "carried", "beyond":
+            name = path.with_name(f"answer-{word}.toml")
+            times = models.read(name).materials[0].weight
+            self.assertGreater(times, 1)
+            self.assertEqual(scale_of(name.read_text()), Scale(Fraction(3 * times), 5))
+
     def test_a_share_that_is_rejected_is_missing(self) -> None:
         self.draw("sway", "1", "0", "wall", "2", "2")
         status, lines, left = self.rejecting("greatest\\|collapses", 1, "load")
@@ -315,6 +328,60 @@ class Irregular(Answers):
         status, lines, err = self.asked("stand")
         self.assertEqual((status, lines), (70, []))
         self.assertIn("there are no forces of 127 bits: whole forces that balance need ", err)
+
+
+    def test_an_arch_of_64_voussoirs_is_refused_with_the_reason(self) -> None:
+        """A corner of the polytope of forces, times its common denominator, is whole forces, of more than 127 bits. So
+        no less than what is said is needed, and no more than these have."""
+        self.draw("arch", "64", "800")
+        status, lines, err = self.asked("load")
+        self.assertEqual((status, [line.split()[0] for line in lines]), (70, ["beyond"]))
+        need = int(err.split("a share carried wasn't found: there are no forces of 127 bits: whole forces that balance "
+                             "need ")[1].split()[0])
+        structure, _ = self.structure(models.read(self.name))
+        amounts = linear.carried(structure, structure.dead)
+        assert amounts is not None
+        scale = math.lcm(*(amount.denominator for amount in amounts.values()))
+        most = max(max(map(abs, structure.edges[k].part)) * amount * scale for k, amount in amounts.items())
+        self.assertTrue(127 < need <= 1 + int(max(scale, most)).bit_length(), (need, most))
+        self.assertEqual(err.count("a share carried wasn't found"), 1)
+
+
+class Short(Answers):
+    """Forces of short numbers, on a post that leans on nothing: its weight of 8, in sixths, on two bearings."""
+
+    def setUp(self) -> None:
+        super().setUp()
+        stone = [Material("stone", 1, [1, 2])]
+        post = Block(name="post", material="stone", corners=[[0, 0], [2, 0], [2, 4], [0, 4]])
+        self.pushed, _ = self.structure(Model(None, None, stone, [], [ground(-9, 9), post],
+                                              [Load("post", "dead", [0, 1], [2, 0])]))
+
+    def balances(self, scale: int, parts: Sequence[tuple[int, int]]) -> None:
+        sums = [scale * amount for amount in self.pushed.dead]
+        for number, part in enumerate(parts):
+            for row, amount in self.pushed.column(number, part).items():
+                sums[row] += amount
+        self.assertTrue(self.pushed.admits(parts) and scale > 0)
+        self.assertEqual(sums, [0] * len(sums))
+
+    def test_forces_at_a_corner_are_taken_as_they_are(self) -> None:
+        amounts = linear.carried(self.pushed, self.pushed.dead)
+        assert amounts is not None
+        found = short.exact_forces(self.pushed, amounts)
+        assert found is not None
+        self.balances(*found)
+        self.assertIsNone(short.exact_forces(self.pushed, amounts, 2**127))
+        self.assertIsNone(linear.carried(self.pushed, [-amount for amount in self.pushed.dead]))
+
+    def test_what_acts_along_a_joint_is_parted_within_both_cones(self) -> None:
+        """The foot takes -12 along it, and its bearings press with 8 + 2 or 8 - 2 halves of 6: however it is parted,
+        each keeps to half of what it presses with."""
+        inner = linear.inner(self.pushed, self.pushed.dead)
+        assert inner is not None
+        rounding = short.Rounding(self.pushed, inner.amounts, self.pushed.dead)
+        self.assertEqual([len(one.bearings) for one in rounding.unknowns], [1, 1, 2])
+        self.balances(*rounding.least())
 
 
 class Refusals(Answers):

@@ -20,6 +20,7 @@ from masonry.console import Answer
 from masonry.lp import linear
 from masonry.lp.short_certificates import Rounding, Tried, short_forces
 from masonry.model import Block, Load, Material, Model
+from masonry.questions.results import Shares
 
 
 class Travels(Asked):
@@ -136,6 +137,27 @@ class Travels(Asked):
         sloping = replace(slanting, blocks=[slanting.blocks[0], replace(slanting.blocks[1], corners=[
             [0, 0], [2, 0], [2, 4], [0, 5]])])
         self.travelled(sloping, "1", "1", status=70)
+
+    def test_loads_that_slant_are_worst_at_a_ridge(self) -> None:
+        """A post 2 wide with a ridge at (1, 5), of the weight 9, tips about its right foot at 9*1: a push to the right
+        at the ridge has the arm 5, at the ends of the top 4. Both ends of the top are no worse place."""
+        ridged = post([Load("post", "live", [0, 4], [1, 0])])
+        ridged.blocks[1].corners = [[0, 0], [2, 0], [2, 4], [1, 5], [0, 4]]
+        lines = self.travelled(ridged, "1")
+        self.assertEqual(lines, ["at 0 on post 9/4 = 2.25", "at 1 on post 9/5 = 1.8", "at 2 on post 9/4 = 2.25",
+                                 "least at 1 on post 9/5 = 1.8"])
+
+    def test_the_least_of_shares(self) -> None:
+        """What is carried everywhere is the least that is carried, and the least share beyond is beyond: 2 and 4 of
+        (2, 5) and (3, 4). The one is rounded down, and the other up."""
+        seats = travel.Seat(7, "post"),
+        places = [travel.Place(seats, Shares(Fraction(low), Fraction(high), None, True))
+                  for low, high in (("2", "5"), ("3", "4"))]
+        least = travel.least(places)
+        assert least is not None
+        self.assertEqual(least.said(), "at 7 on post carried 2/1 = 2 beyond 4/1 = 4")
+        thirds = Shares(Fraction(2, 3), Fraction(5, 3), None, True)
+        self.assertEqual(travel.carries(thirds), "carried 2/3 = 0.66666666 beyond 5/3 = 1.66666667")
 
     def test_what_is_withheld(self) -> None:
         falling = post([Load("post", "dead", [9, 4], [0, -9]), Load("post", "live", [1, 4], [0, -1])])

@@ -206,6 +206,9 @@ class Numbers(unittest.TestCase):
         self.assertEqual(scale_of("# All forces are multiplied by 1/0, all lengths by 1.\n"), Scale())
         self.assertEqual(scale_of(""), Scale())
 
+    def test_multiples_of_multiples(self) -> None:
+        self.assertEqual(Scale(Fraction(3, 2), 5).times(Scale(Fraction(4), 7)), Scale(Fraction(6), 35))
+
 
 if __name__ == "__main__":
     unittest.main()
