@@ -31,9 +31,9 @@ that cost nothing there are left out. Live loads aren't moved, nor asked one by 
 It prints Markdown. The rows of the table are sorted, the least first: the figure, and that of the live loads the other
 way round; both as parts of those as drawn; and NAME, for FOLDER/NAME.toml with FOLDER/NAME.cert, and NAME-turned for
 the other way. Figures are rounded down, and their fractions are in the certificates. If there are two shares
-(docs/other_solvers.md), the figure is the one that is carried, of FOLDER/NAME-carried.toml. Then come the rows that
+(docs/use/other_solvers.md), the figure is the one that is carried, of FOLDER/NAME-carried.toml. Then come the rows that
 carry no less; whether a joint can slide, of which the first that can is told; what looks odd in the drawing; and the
-mistakes that no script can try. Nothing here says that a structure is safe: docs/safety.md has the whole list.
+mistakes that no script can try. Nothing here says that a structure is safe: docs/use/safety.md has the whole list.
 
 The status is 0; 1 if MODEL falls under its dead loads; 70 where a row isn't settled, or if MODEL has no free block; 2
 for wrong words; or that of the program, if it refuses MODEL. `esolver` is needed, as by tools/solve.py. Python 3.11.
@@ -179,7 +179,7 @@ def odd(found: Assessment) -> Iterator[str]:
         yield f"- {said}: {', '.join(places[:SHOWN])}{more}."
     yield from (f"- {line}." for line in changes.oddities(found.model))
     if joint:
-        yield f"- The shortest joint is {number(joint)} units long. Draw on two finer grids (docs/reading.md)."
+        yield f"- The shortest joint is {number(joint)} units long. Draw on two finer grids (docs/use/reading.md)."
 
 
 ODD = {"near": "Corners that nearly meet a body (body, other body, place, gap)",
@@ -188,19 +188,19 @@ ODD = {"near": "Corners that nearly meet a body (body, other body, place, gap)",
        "nothing": "Blocks whose weight no bearing can carry: nothing",
        "apart": "Bodies that no joints tie to a fixed one"}
 # What no script can try: always, with a sway, without one, and with a live load that acts straight up or down.
-ALWAYS = """the ground under the toe, and the strength of stones at this thrust: docs/safety.md
-supports that give way, drawn as fixed: docs/worked_bridge.md, step 6
-slabs, lintels and corbels that break in bending: docs/scope.md, "What is left out"
-leaves of a wall, rings of an arch, and courses, drawn as one: docs/scope.md, "What is left out"
-failure out of the plane of the drawing: docs/worked_section.md
-water behind a blocked drain, and its uplift: docs/worked_wall.md, step 10
+ALWAYS = """the ground under the toe, and the strength of stones at this thrust: docs/use/safety.md
+supports that give way, drawn as fixed: docs/worked/bridge.md, step 6
+slabs, lintels and corbels that break in bending: docs/use/scope.md, "What is left out"
+leaves of a wall, rings of an arch, and courses, drawn as one: docs/use/scope.md, "What is left out"
+failure out of the plane of the drawing: docs/worked/section.md
+water behind a blocked drain, and its uplift: docs/worked/wall.md, step 10
 wind, for which a sway doesn't stand, and roofs that it lifts
 cramps, ties and fill that may be missing, where blocks are drawn as one
 the slice: what part of a load falls on it, and how wide the stone is under a load"""
 SWAYING = """earth, fill and water, which push harder in an earthquake: tools/earth.py quake
-floors whose weight this wall must hold alone: docs/worked_section.md, step 3"""
-STILL = """an earthquake: docs/scope.md, "What a sway means, and what it doesn't"
-an earth that is weaker than its pressure says: docs/worked_wall.md, step 11"""
+floors whose weight this wall must hold alone: docs/worked/section.md, step 3"""
+STILL = """an earthquake: docs/use/scope.md, "What a sway means, and what it doesn't"
+an earth that is weaker than its pressure says: docs/worked/wall.md, step 11"""
 DOWN = """a load that travels farther than to the next block, and axles: tools/travel.py
 two loads together, in any proportion: tools/region.py"""
 
@@ -226,7 +226,7 @@ def lines_of(found: Assessment) -> Iterator[str]:
     if not any(end is None or isinstance(end.found, Collapses) for end in found.drawn.ends):
         yield from ["", "Sliding:", "", *sliding(found)]
     yield from ["", "In the drawing:", "", *odd(found)]
-    yield from ["", "What no script has tried (docs/safety.md has the list):", "", *untried(found.model)]
+    yield from ["", "What no script has tried (docs/use/safety.md has the list):", "", *untried(found.model)]
 
 
 def assess(words: list[str]) -> int:

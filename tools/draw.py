@@ -20,7 +20,7 @@ all fixed bodies are of a material of their own, and P over Q is its friction wi
   the middle, and `block` to the voussoir under it. For the crown `at` is 0 and the outer radius, and `block` the
   middle voussoir.
 - `arch .. short`: the joints have short directions, and lengths of few primes, so that certificates have short
-  numbers. Each joint is turned a little for that, by less than the angle of a voussoir. docs/other_solvers.md says
+  numbers. Each joint is turned a little for that, by less than the angle of a voussoir. docs/use/other_solvers.md says
   why this helps.
 - `ring`: an arch by the radius of its middle line and its thickness, over so many DEGREES, 180 if none are given, on
   springers square to its ends. One with a clear span of 4 m, 0.5 m thick, on a grid of 1 cm is `ring 9 225 50`.
@@ -42,7 +42,7 @@ all fixed bodies are of a material of their own, and P over Q is its friction wi
   dimensions at random; without one it is symmetric.
 
 Walls, coursed and bonded stone, rubble and facades are pushed to the right at their upper left corner.
-docs/other_solvers.md and docs/published.md have answers for some of them.
+docs/use/other_solvers.md and docs/use/published.md have answers for some of them.
 
 The exit status is 2 if the words make no sense, and 70 if what they ask for is no model: more than 128 blocks, say, or
 a ring so thin that a voussoir has no area on the grid. Python 3.11 or later.

@@ -36,16 +36,16 @@ since friction demands it. All else follows. A joint stays closed if nothing mov
 if nothing moves at the bearings between them, of which there are at least two; or if all their corners move alike.
 Blocks are still if they move as one with a fixed body.
 
-With `kN FORCE` forces are in kN: FORCE is what a force of 1 of the structure is, as docs/formats.md works it out for a
-slice of some depth. With `m LENGTH` lengths are in metres. The first line says so. The model of a share, and one with
-shorter joints, says in its first line by what all its forces and lengths are multiplied: these numbers are divided by
-it. Without `kN` and `m` they aren't, and the line `multiplied` says what to divide by.
+With `kN FORCE` forces are in kN: FORCE is what a force of 1 of the structure is, as docs/use/formats.md works it out
+for a slice of some depth. With `m LENGTH` lengths are in metres. The first line says so. The model of a share, and one
+with shorter joints, says in its first line by what all its forces and lengths are multiplied: these numbers are divided
+by it. Without `kN` and `m` they aren't, and the line `multiplied` says what to divide by.
 
 If a block turns at a rate above a million, all rates are divided by the greatest one, so that the fastest block turns
 at 1 or -1. If no block turns, the same holds for the greatest velocity.
 
 The exit status is that of the program. It is 70 if a file can't be read or the program can't be run, and 2 if the words
-make no sense. Python 3.11 or later. docs/reading.md explains the lines.
+make no sense. Python 3.11 or later. docs/use/reading.md explains the lines.
 """
 import re
 import sys

@@ -44,8 +44,8 @@ some of them |T| is at least the friction times N, also if both are 0. The scrip
 finds, since one is enough for the factor to be an upper bound alone; others may slide from lower factors on, and with
 `all` it asks about every joint. For each that can slide, a line says between which factors, and with which N and T at
 the least of these; then come all joints at the least factor of all. Or the line is `no joint can slide`. Then the
-factor is no mere upper bound: docs/scope.md. This has no certificate; the script checks in fractions the dual numbers
-that close each of its linear programs.
+factor is no mere upper bound: docs/use/scope.md. This has no certificate; the script checks in fractions the dual
+numbers that close each of its linear programs.
 
 `friction` asks how much friction is needed, under N/D of the live loads and of the sway, none if not given: for a share
 of all coefficients with which the structure stands, and a lesser one with which it falls. They are within a thousandth
@@ -63,7 +63,7 @@ where something wasn't found, with the reason on standard error; or that of `con
 
 `esolver` (QSopt_ex, Debian's package qsopt-ex) solves the linear programs. The environment variable PUNGIROE names the
 program, which is else the script `pungiroe` in the folder above this one. Python 3.11 or later.
-docs/other_solvers.md explains the method.
+docs/use/other_solvers.md explains the method.
 """
 import os
 import re

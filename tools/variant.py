@@ -19,8 +19,8 @@ the drawing itself, so that `check` and `table` can judge them:
 - `direction`: the forces of the live loads I and J, by their numbers from 1 among all loads of the file, are multiplied
   by M and by N. The other live loads and the sway are left out. This is the model of the direction (M, N).
 - `share`: D times the dead loads and N times the live ones, the sway with them, are dead. There are no live loads. If
-  it stands, the structure carries N/D of its live loads. docs/formats.md says how the sway becomes forces. The first
-  line says by what all forces are multiplied; tools/read.py divides by it.
+  it stands, the structure carries N/D of its live loads. docs/use/formats.md says how the sway becomes forces. The
+  first line says by what all forces are multiplied; tools/read.py divides by it.
 
 The others are for questions of your own:
 
@@ -32,7 +32,7 @@ The others are for questions of your own:
   grid. D is a decimal number or a fraction, in units of the grid of MODEL. Corners are cut for it, of fixed bodies too.
   The grid of the new model is finer, M times if you give M. Else the script takes the least M up to 1,000 with which no
   joint loses more than a twentieth more than D, or the best that the limits of a model allow. The first line says by
-  what forces and lengths are multiplied. Standard error says what was taken. docs/scope.md says what this is for:
+  what forces and lengths are multiplied. Standard error says what was taken. docs/use/scope.md says what this is for:
   stones that crush.
 
 All else stays as it is and in its order. Comments are lost, but for such a first line. MODEL must be a model that the

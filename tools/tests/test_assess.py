@@ -62,7 +62,7 @@ class Assessed(Asked):
             form, _, scale, factor, *_ = (self.files / f"{name}.cert").read_text().split()
             if form != "stands":  # and two shares
                 self.assertEqual((form, cells[0]), ("greatest", trials.rounded(int(factor) / int(scale))))
-        # docs/worked_arch.md: at x = -84; and with the friction 1/2, on the same model by hand.
+        # docs/worked/arch.md: at x = -84; and with the friction 1/2, on the same model by hand.
         self.assertEqual((rows["load-1-2-v6"], rows["load-1-2-v5"]), (["55.70"], ["55.70"]))
         smoother = example("arches/footbridge")
         smoother = replace(smoother, materials=[replace(smoother.materials[0], friction=[1, 2])])
@@ -71,7 +71,7 @@ class Assessed(Asked):
         self.assertEqual(rows["friction"], [trials.rounded(float(most))])
 
     def test_a_retaining_wall(self) -> None:
-        # docs/worked_wall.md: it tips at (43.56 - 26.97)/4.5 of 3 kN. Nine tenths of its weight, or eleven of the
+        # docs/worked/wall.md: it tips at (43.56 - 26.97)/4.5 of 3 kN. Nine tenths of its weight, or eleven of the
         # earth's push, change one of the two; with the friction 5/9 it slides at 33 - 27.
         rows = self.rows(self.assessed(example("walls/dry-stone-retaining-wall"), "0.0001"))
         self.assertEqual([rows[name][0] for name in ("as-drawn", "weight-0.9", "dead-1.1", "friction")],
@@ -79,8 +79,8 @@ class Assessed(Asked):
                           trials.rounded((43.56 - 1.1 * 26.97) / 1.5), "6.000"])
 
     def test_a_facade_in_an_earthquake(self) -> None:
-        # F/(1 + F/2) with half of the share upwards, on all weights (docs/scope.md); and docs/worked_facade.md while it
-        # is built.
+        # F/(1 + F/2) with half of the share upwards, on all weights (docs/use/scope.md); and docs/worked/facade.md
+        # while it is built.
         rows = self.rows(self.assessed(example("walls/facade"), "order", str(EXAMPLES / "orders/facade-from-below")))
         sides = [Fraction(187865, 376192), Fraction(3562968, 7173881)]
         self.assertEqual(rows["as-drawn"], [trials.rounded(float(one)) for one in sides])

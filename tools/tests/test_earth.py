@@ -366,7 +366,7 @@ class Fills(unittest.TestCase):
 
 
 def courses(sway: list[int] | None = None, friction: tuple[int, int] = (2, 3)) -> Model:
-    """The wall of docs/worked_wall.md: six courses, 120 thick at the foot and 60 at the head."""
+    """The wall of docs/worked/wall.md: six courses, 120 thick at the foot and 60 at the head."""
     model = wall(*([[0, 50 * k], [120 - 10 * k, 50 * k], [110 - 10 * k, 50 * k + 50], [0, 50 * k + 50]]
                    for k in range(6)), sway=sway)
     model.materials[0].friction = list(friction)

@@ -108,7 +108,7 @@ touch 1 post pier 4 4
 
     @unittest.skipUnless(built(), NOT_BUILT)
     def test_a_share_is_told_in_the_units_of_the_structure(self) -> None:
-        """The wall of docs/worked_wall.md weighs 59.4 kN and takes 27 kN of earth. At the share 1/2 all forces are
+        """The wall of docs/worked/wall.md weighs 59.4 kN and takes 27 kN of earth. At the share 1/2 all forces are
         doubled, and half of the surcharge's 3 kN is dead as well."""
         wall = read(TOP / "examples/walls/dry-stone-retaining-wall.toml")
         with TemporaryDirectory() as folder:

@@ -1,5 +1,5 @@
 #!/usr/bin/env python3
-"""Tests of masonry/model.py, on values by hand or from the definitions of docs/formats.md.
+"""Tests of masonry/model.py, on values by hand or from the definitions of docs/use/formats.md.
 
     python3 tools/tests/test_model.py
 """

@@ -148,7 +148,7 @@ class Compared(Made):
         self.said("write")
         self.write("crates/posts/src/laws.rt", LAWS.replace("A law", "Another law"))
         status, told = self.said("compare")
-        self.assertEqual((status, told.split()[0]), (1, "docs/calls.md"))
+        self.assertEqual((status, told.split()[0]), (1, "docs/proofs/calls.md"))
 
     def test_a_missing_page_is_noticed(self) -> None:
         self.assertEqual(self.said("compare")[0], 1)

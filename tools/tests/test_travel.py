@@ -29,7 +29,7 @@ class Travels(Asked):
         return self.said(travel.main, self.name, *words, status=status)
 
     def test_the_footbridge(self) -> None:
-        # By hand, with the mechanism of docs/worked_arch.md: v3 to v5 turn by 5830 about x = -62.683, so at x = -84 the
+        # By hand, with the mechanism of docs/worked/arch.md: v3 to v5 turn by 5830 about x = -62.683, so at x = -84 the
         # load of 10000 sinks by 5830*21.317, while the weights rise by 69231846240: 69231846240/(10000*5830*21.317).
         lines = self.travelled(example("arches/footbridge"), "1")
         self.assertEqual(lines[-1], "least at -84 on v6 144233013/2589125 = 55.7072")
@@ -96,7 +96,7 @@ class Travels(Asked):
                              f"least of the given places at 2 on beam {at_two}/1 = {at_two}")
 
     def test_the_footbridge_with_a_centimetre_off(self) -> None:
-        # docs/worked_arch.md, step 8, asks `v5` and `v6` one by one: 44.89 and 45.8251.
+        # docs/worked/arch.md, step 8, asks `v5` and `v6` one by one: 44.89 and 45.8251.
         lines = self.travelled(example("arches/footbridge"), "1", "inset", "1", "-84")
         self.assertEqual(lines[0], "at -84 on v6 272858964831607/5954353687500 = 45.8251")
         self.assertTrue(lines[1].startswith("at -84 on v5 carried ") and " = 44.8899" in lines[1], lines[1])

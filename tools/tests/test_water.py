@@ -95,7 +95,7 @@ class Water(Asked):
         self.assertEqual(found, [True, False])
 
     def test_the_retaining_wall(self) -> None:
-        # docs/worked_wall.md, step 10, water alone: with uplift it slides at 5*h^2 = 2/3*(59.4 - 6*h).
+        # docs/worked/wall.md, step 10, water alone: with uplift it slides at 5*h^2 = 2/3*(59.4 - 6*h).
         wet = example("walls/dry-stone-retaining-wall")
         wet = replace(wet, loads=[])
         found = []

@@ -3,14 +3,14 @@
 
     tools/upkeep/pages.py [PAGE..]
 
-The pages are README.md, CONTRIBUTING.md, docs/*.md and examples/*.md, or those that are named. A line on standard
+The pages are README.md, CONTRIBUTING.md, docs/*/*.md and examples/*.md, or those that are named. A line on standard
 output names each fault, with its page and line. The last line counts; the status is 1 if there is a fault, and 0
 otherwise.
 
 - **A link** `[text](FILE#ANCHOR)` names a file that is there, and a heading of that page, spelled as GitHub does. Links
   to other sites aren't looked at.
 - **A cited heading** is in words: `formats.md, "The range"`, `README ("How to run it")`, `"Units" below`, or
-  `worked_arch.md, step 7`. The page has such a heading, or a paragraph that begins with these words in bold.
+  `arch.md, step 7`. The page has such a heading, or a paragraph that begins with these words in bold.
 - **A command** is a line of a fenced block that begins with `$ `. If it isn't whole, it goes on in lines that begin
   with `> `. What follows, up to the next command or the end of the block, is all that it prints, to standard output
   and standard error. A line `..` there stands for any lines. What stands before the first command isn't looked at,
@@ -221,7 +221,7 @@ def page_named(word: str, text: str, page: Page, top: Path) -> Path | None:
         return top / f"{word}.md"
     if ".md" not in text:
         return None
-    places = (top / f"{word}.md", page.path.parent / f"{word}.md", top / "docs" / f"{word}.md")
+    places = (top / f"{word}.md", page.path.parent / f"{word}.md", *sorted(top.glob(f"docs/**/{word}.md")))
     there = next((it for it in places if it.exists()), None)
     # Pages of Rattle's kit have their names in capitals.
     return there or (None if word.isupper() or "rattle" in word else places[0])
@@ -314,7 +314,7 @@ def look(path: Path, top: Path) -> Looked:
 
 
 def pages_of(top: Path) -> list[Path]:
-    folders = (it for folder in ("docs", "examples") for it in sorted(top.glob(f"{folder}/*.md")))
+    folders = (it for folder in ("docs", "examples") for it in sorted(top.glob(f"{folder}/**/*.md")))
     return [top / "README.md", top / "CONTRIBUTING.md", *folders]
 
 

@@ -1,5 +1,5 @@
 #!/usr/bin/env bash
-# Makes the logs of `rt plant`, of which docs/testing.md has its table of wrong bodies, and prints that table.
+# Makes the logs of `rt plant`, of which docs/proofs/testing.md has its table of wrong bodies, and prints that table.
 #
 #     tools/upkeep/plants.sh FOLDER [CRATE..]
 #

@@ -24,7 +24,7 @@ from pathlib import Path
 from textwrap import fill
 
 TOP = Path(__file__).resolve().parents[2]
-PAGES = {"calls": "docs/calls.md", "definitions": "docs/cited.md"}
+PAGES = {"calls": "docs/proofs/calls.md", "definitions": "docs/proofs/cited.md"}
 HEADS = {
     "calls": """# What each crate lends
 

@@ -1,7 +1,8 @@
 """What is certified and announced: questions about a model, settled by the program or by linear programs.
 
 Nothing here is proved: only the `accepted` of `check` counts. Nothing is announced, and no answer is given, that
-`check` didn't accept; a certificate that it rejects never takes its place. docs/other_solvers.md explains the method.
+`check` didn't accept; a certificate that it rejects never takes its place. docs/use/other_solvers.md explains the
+method.
 """
 from collections.abc import Callable, Sequence
 from dataclasses import dataclass, field
