@@ -31,9 +31,9 @@ answers where it can. What is found behind the line `reversed` is of that model.
 for the force of a tie, which draws the point (X, Y) of the body A and the point (U, V) of the body B together, and with
 `prop` for that of a prop, which pushes the block A at (X, Y) in the direction (U, V). Then N/D of the live loads and of
 the sway act as dead, none if not given. A force below 0 acts the other way. Both ends come from an exact linear
-program. The script makes a factor between them dead, writes that model to CERT.toml, and certifies its range as `range`
-does. It prints the ends as factors of MODEL itself, and those of a tie or a prop in units of force. Where two shares
-are found for an end, the last line is `carried from A to B`.
+program. The script makes a factor between them dead, writes that model to CERT.toml, whose first lines say which, and
+certifies its range as `range` does. It prints the ends as factors of MODEL itself, and those of a tie or a prop in
+units of force. Where two shares are found for an end, the last line is `carried from A to B`.
 
 `stages` asks which stages of an order of building stand, each by the program where it answers. Stage K of those that it
 refuses, and of one that collapses, has its model in CERT-K.toml and its certificate in CERT-K.cert.

@@ -6,6 +6,7 @@
 import contextlib
 import io
 import random
+import re
 import unittest
 from fractions import Fraction
 from pathlib import Path
@@ -82,6 +83,11 @@ class Ends(Asked):
         lines = self.solved(post([Load("post", "dead", [2, 4], [-5, 0])], [1, 0]), "between", self.cert)
         self.assertEqual(lines[-1], "between 3/4 = 0.75 and 13/8 = 1.625")
         shifted = models.read(f"{self.folder}/answer.toml")
+        # 3/4 and 13/8 are less by the factor that is dead, of which the file tells: so is what `load` says.
+        *_, note = [line for line in Path(f"{self.folder}/answer.toml").read_text().splitlines() if line[:1] == "#"]
+        dead = Fraction(re.fullmatch(r"# The factor (\S+) is dead here: .*", note)[1])  # type: ignore[index]
+        _, scale, factor = program.answer("load", f"{self.folder}/answer.toml").splitlines()[1].split()
+        self.assertEqual(dead + Fraction(int(factor), int(scale)), Fraction(13, 8))
         self.assertEqual((shifted.sway, program.run("check", f"{self.folder}/answer.toml", self.cert).output),
                          ([1, 0], "accepted\n"))
 

@@ -342,8 +342,8 @@ class Irregular(Answers):
         amounts = linear.carried(structure, structure.dead)
         assert amounts is not None
         scale = math.lcm(*(amount.denominator for amount in amounts.values()))
-        most = max(max(abs(part) for part in structure.edges[k].part) * amount * scale for k, amount in amounts.items())
-        self.assertTrue(127 < need <= 1 + int(max(Fraction(scale), most)).bit_length(), (need, most))
+        most = max(amount * (scale * max(abs(x) for x in structure.edges[k].part)) for k, amount in amounts.items())
+        self.assertTrue(127 < need <= 1 + max(scale, int(most)).bit_length(), (need, most))
         self.assertEqual(err.count("a share carried wasn't found"), 1)
 
 

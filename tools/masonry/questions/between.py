@@ -177,7 +177,8 @@ def between(question: Question, cert: str, progress: Telling) -> bool:
     share = middle(*ends)
     if share:
         made, times = shifted(question.model, share)
-        ranges.put(name, made, question.scale.times(Scale(Fraction(times))))
+        note = f"# The factor {ratio(share)} is dead here: the factors of this model are less by that.\n"
+        ranges.put(name, made, question.scale.times(Scale(Fraction(times))), note)
     case = Case(name, cert, progress, Silent())
     greatest, least = ranges.both(case, ranges.reversed_case(case), "")
     top = end_of(greatest, share, 1, question.unit)

@@ -22,9 +22,9 @@ def both(case: Case, other: Case, between: str) -> tuple[Loaded, Loaded | None]:
     return greatest, other.settled_load()
 
 
-def put(name: str, model: Model, scale: Scale) -> None:
-    """Writes a model whose first line says by what its forces are multiplied, if they are."""
-    models.put(name, ("" if scale == Scale() else scale.line()) + models.printed(model))
+def put(name: str, model: Model, scale: Scale, note: str = "") -> None:
+    """Writes a model whose first line says by what its forces are multiplied, if they are; then comes a note."""
+    models.put(name, ("" if scale == Scale() else scale.line()) + note + models.printed(model))
 
 
 def reversed_case(case: Case) -> Case:
