@@ -38,7 +38,7 @@ from tempfile import TemporaryDirectory
 
 TOP = Path(__file__).resolve().parents[2]
 # How long the commands of a page may take together, in seconds.
-LONGEST = 300
+LONGEST = 900
 # A page that takes longer is named at the end.
 LONG = 5
 # A heading in words may have quotes in it, so its end is found by the headings that there are.
