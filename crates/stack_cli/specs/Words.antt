@@ -42,22 +42,22 @@ unless_zero (Some n) = if nat_lt 0 n then Some n else None
 abbrev pub budget_of : List ℕ → Option ℕ
 budget_of word = unless_zero (number_spelled word)
 
--- A judgement wants a question and a budget: where one of them isn't spelled, the words are no form.
+-- A judgement needs a question and a budget: if one of them isn't spelled, the words are no form.
 abbrev pub judging : Option Question → List ℕ → Option ℕ → Option Form
 judging (Some question) model (Some budget) = Some (judges question model budget)
 judging _ model budget = None
 
--- A range wants a budget.
+-- A range needs a budget.
 abbrev pub ranging : List ℕ → Option ℕ → Option Form
 ranging model (Some budget) = Some (ranges model budget)
 ranging model None = None
 
--- Stages want a budget.
+-- Stages need a budget.
 abbrev pub staging : List ℕ → List ℕ → Option ℕ → Option Form
 staging model order (Some budget) = Some (builds model order budget)
 staging model order None = None
 
--- A region wants the numbers of two loads and a budget: where one of them isn't spelled, the words are no form.
+-- A region needs the numbers of two loads and a budget: if one of them isn't spelled, the words are no form.
 abbrev pub yielding : List ℕ → Option ℕ → Option ℕ → List ℕ → Option ℕ → Option Form
 yielding model (Some i) (Some j) directions (Some budget) = Some (yields model i j directions budget)
 yielding model _ j directions budget = None
@@ -68,7 +68,7 @@ stack_kind word = if bytes_eq word (codes "harmonic") then Some Harmonic
     else (if bytes_eq word (codes "triangle") then Some Triangle
     else (if bytes_eq word (codes "slab") then Some Slab else None))
 
--- A built-in stack wants its kind and its number: where one isn't spelled, the words are no form.
+-- A built-in stack needs its kind and its number: if one isn't spelled, the words are no form.
 abbrev pub stacking : Option Kind → Option ℕ → Option Form
 stacking (Some kind) (Some n) = Some (stack kind n)
 stacking _ n = None
@@ -114,8 +114,8 @@ form_of (word ∷ next ∷ third ∷ fourth ∷ fifth ∷ last ∷ []) = form_of
 form_of _ = None
 
 -- What is made of all words that the runtime has: those after the first, which is the program's own name, in their
--- order, unless memory for them is wanting. Where the runtime has an error in their place, memory was wanting or a word
--- can't be read.
+-- order, unless there is no memory for them. If the runtime has an error in their place, memory ran out or a word can't
+-- be read.
 abbrev pub AreWordsAfterName : Result (IntoIter (String Global) Global) Error → CodeGiven → Type 0
 AreWordsAfterName (Ok all) (given.Words words) = words.items ≡ drop 1 (into_iter_items all)
 AreWordsAfterName (Ok all) given.Unreadable = ⊥
@@ -124,7 +124,7 @@ AreWordsAfterName (Err e) (given.Words words) = ⊥
 AreWordsAfterName (Err e) given.Unreadable = error_kind e ≢ OutOfMemory
 AreWordsAfterName (Err e) given.Memory = error_kind e ≡ OutOfMemory
 
--- The words that the runtime gave: where one of them can't be read, or there is no memory for them, they are no form.
+-- The words that the runtime gave: if one of them can't be read, or there is no memory for them, they are no form.
 abbrev pub form_of_given : CodeGiven → Option Form
 form_of_given (given.Words words) = form_of (texts words.items)
 form_of_given given.Unreadable = None

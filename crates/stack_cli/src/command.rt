@@ -19,7 +19,7 @@ use stack_said::printed_is_accepted;
 use stack_walls::walls_can_be_surveyed;
 use std::alloc::Global;
 
-/// The line of a refusal that tells nothing but which it is, with its line feed. It takes no memory.
+/// The line of a refusal that says nothing but which it is, with its line feed. It takes no memory.
 fn constant_line(refusal: &Refusal) -> Option<&'static str>
     ensures some { IfSome result (λ line. line.now ≡ with_line_feed (refusal_line (refusal_view refusal.now))) }
     ensures none { IfNone result (TakesMemory (refusal_view refusal.now)) }

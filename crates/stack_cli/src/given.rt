@@ -19,12 +19,12 @@ pub enum Given {
     Words(Vec<String>),
     /// One of them isn't UTF-8.
     Unreadable,
-    /// Memory for them was wanting.
+    /// There was no memory for them.
     Memory,
 }
 
-/// Does what the words ask for, as `run` does. Words of which one can't be read have no form, and none for which memory
-/// was wanting.
+/// Does what the words ask for, as `run` does. Words have no form if one of them can't be read, or if there was no
+/// memory for them.
 pub fn run_given<F: Shelf, O: Sink, E: Sink>(
     alloc: Global,
     given: Given,

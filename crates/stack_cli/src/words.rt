@@ -55,7 +55,7 @@ fn budget_of(word: &str) -> Option<u32>
     }
 }
 
-/// The form of a question about a model, where the word asks one and the budget is one.
+/// The form of a question about a model, if the word asks one and the budget is one.
 fn judging<'a>(question: Option<Question>, model: &'a str, budget: Option<u32>) -> Option<Form<'a>>
     requires { IfSome budget (λ n. n ≢ 0) }
     ensures is { option_map form_view result ≡ judging_of question model.now budget }
@@ -71,7 +71,7 @@ fn judging<'a>(question: Option<Question>, model: &'a str, budget: Option<u32>) 
     }
 }
 
-/// The form of the range of a model, where the budget is one.
+/// The form of the range of a model, if the budget is one.
 fn ranging<'a>(model: &'a str, budget: Option<u32>) -> Option<Form<'a>>
     requires { IfSome budget (λ n. n ≢ 0) }
     ensures is { option_map form_view result ≡ ranging_of model.now budget }
@@ -83,7 +83,7 @@ fn ranging<'a>(model: &'a str, budget: Option<u32>) -> Option<Form<'a>>
     }
 }
 
-/// The form of the stages of an order, where the budget is one.
+/// The form of the stages of an order, if the budget is one.
 fn staging<'a>(model: &'a str, order: &'a str, budget: Option<u32>) -> Option<Form<'a>>
     requires { IfSome budget (λ n. n ≢ 0) }
     ensures is { option_map form_view result ≡ staging_of model.now order.now budget }
@@ -99,7 +99,7 @@ fn staging<'a>(model: &'a str, order: &'a str, budget: Option<u32>) -> Option<Fo
     }
 }
 
-/// The form of the region of two loads, where both have a number and the budget is one.
+/// The form of the region of two loads, if both have a number and the budget is one.
 fn yielding<'a>(
     model: &'a str,
     first: Option<u32>,
@@ -138,7 +138,7 @@ fn kind_of(word: &str) -> Option<Kind>
     }
 }
 
-/// The form of a built-in stack, where the word names a kind and the size is a number.
+/// The form of a built-in stack, if the word names a kind and the size is a number.
 fn stacking<'a>(kind: Option<Kind>, size: Option<u32>) -> Option<Form<'a>>
     ensures is { option_map form_view result ≡ stacking_of kind size }
     ensures budget { IfSome result HasBudget }
@@ -255,7 +255,7 @@ fn form_of_six<'a>(
     None
 }
 
-/// The form of the words, exactly where they have one. Takes no memory.
+/// The form of the words, exactly if they have one. Takes no memory.
 pub fn parse_form(words: &[String]) -> Option<Form<'_>>
     ensures is { option_map form_view result ≡ form_of (texts words.now) }
     ensures budget { IfSome result HasBudget }

@@ -53,7 +53,7 @@ unfoldable pub direction_of : List ℕ → Option (ℤ × ℤ)
 direction_of bytes = let d = likely_direction bytes in
     if is_direction d.0 d.1 && bytes_eq bytes (direction_text d) then Some d else None
 
--- a direction in front of the further ones; line number k where it is none
+-- a direction in front of the further ones; line number k if it is none
 abbrev pub with_direction : ℕ → Option (ℤ × ℤ) → Result (List (ℤ × ℤ)) ℕ → Result (List (ℤ × ℤ)) ℕ
 with_direction k None more = Err k
 with_direction k (Some d) (Ok ds) = Ok (d ∷ ds)
@@ -88,7 +88,7 @@ pub record IsGood (lines : List (List ℕ)) (k : ℕ) : Type 0 where
   pub at : slice_get lines k ≡ Some bytes
   pub is : IsDirectionLine direction bytes
 
--- of lines that are numbered from first on, number n is the first that is none or comes behind 64
+-- number n is the first of these lines, numbered from `first` on, that is no direction or comes behind 64
 pub record IsFaultyFrom (first n : ℕ) (lines : List (List ℕ)) : Type 0 where
   pub before : (k : ℕ) → first + k < n → IsGood lines k
   pub place : ℕ
@@ -97,6 +97,6 @@ pub record IsFaultyFrom (first n : ℕ) (lines : List (List ℕ)) : Type 0 where
   pub at : slice_get lines place ≡ Some bytes
   pub here : (n ≡ most_directions + 1) ⊎ ((d : ℤ × ℤ) → ¬ IsDirectionLine d bytes)
 
--- of all lines of a text, number n is the first faulty one; where there are none it is line 1
+-- number n is the first faulty line of a text; if it has no lines that is line 1
 abbrev pub IsFaulty : (n : ℕ) → List (List ℕ) → Type 0
 IsFaulty n lines = ((lines ≡ []) × (n ≡ 1)) ⊎ IsFaultyFrom 1 n lines

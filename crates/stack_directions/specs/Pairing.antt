@@ -17,7 +17,7 @@ pub record IsSlightLoad (l : Load) : Type 0 where
   pub least_fy : negsuc 999999 ≼ l.fy
   pub most_fy : l.fy ≼ pos 1000000
 
--- a test tells whether it is one
+-- whether it is one, by a test
 abbrev pub IsSlight : Bool → Load → Type 0
 IsSlight t l = IsTrue t ↔ IsSlightLoad l
 
@@ -26,7 +26,7 @@ pub record Names (s : Structure) (n k : ℕ) : Type 0 where
   pub number : n ≡ k + 1
   pub load : IsSlightLive s k
 
--- the first number that names no such load, or the second that does so no more or is the first
+-- the first number that names no such load: the first of the two; or the second, which names none or is the first again
 abbrev pub IsInTheWay : Structure → (i j n : ℕ) → Type 0
 IsInTheWay s i j n = ((n ≡ i) × ((k : ℕ) → ¬ Names s i k))
     ⊎ ((n ≡ j) × (((k : ℕ) × Names s i k) × (((k : ℕ) → ¬ Names s j k) ⊎ (i ≡ j))))
@@ -41,12 +41,12 @@ abbrev pub is_slight_load : Load → Bool
 is_slight_load l = l.live && (is_between (negsuc 999999) (pos 1000000) l.fx
     && is_between (negsuc 999999) (pos 1000000) l.fy)
 
--- the number from 0 of the load with a number from 1, where it is such a load. Past the end stands no live load
+-- the number from 0 of the load with a number from 1, if it is such a load. Past the end stands no live load
 abbrev pub slight_number : Structure → ℕ → Option ℕ
 slight_number s zero = None
 slight_number s (suc k) = if is_slight_load (load_of s k) then Some k else None
 
--- both numbers, or the first that is in the way
+-- both numbers, or the first one at fault
 abbrev pub paired : (i j : ℕ) → Option ℕ → Option ℕ → Result LoadPair ℕ
 paired i j None b = Err i
 paired i j (Some a) None = Err j
@@ -56,7 +56,7 @@ paired i j (Some a) (Some b) = if nat_eq i j then Err j else Ok (record { i = a;
 abbrev pub pair_of : Structure → (i j : ℕ) → Result LoadPair ℕ
 pair_of s i j = paired i j (slight_number s i) (slight_number s j)
 
--- what is returned are the two loads, or the number that is in the way
+-- what is returned are the two loads, or the number at fault
 abbrev pub GivesPair : Result (ℕ × ℕ) NoPair → Result LoadPair ℕ → Type 0
 GivesPair (Ok r) p = p ≡ Ok (record { i = r.0; j = r.1 })
 GivesPair (Err e) p = p ≡ Err e.load

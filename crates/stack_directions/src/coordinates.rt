@@ -11,7 +11,7 @@ use stack_certificate::Forces;
 use stack_rational::{Exact, Frac, over, whole};
 use stack_whole::Whole;
 
-/// A coordinate: a number that fits times a fraction, in lowest terms. `None` exactly where a term is too wide.
+/// A coordinate: a number that fits times a fraction, in lowest terms. `None` exactly if a term is too wide.
 fn coordinate(m: Whole, x: Frac<i128>) -> Option<(i128, i128)>
     requires { IsFitting m.value }
     ensures { result ≡ fitting_terms (mul (of m.value) x) }
@@ -22,7 +22,7 @@ fn coordinate(m: Whole, x: Frac<i128>) -> Option<(i128, i128)>
     }
 }
 
-/// `m` and `n` times the factor that forces carry, each in lowest terms. `None` exactly where a term is too wide.
+/// `m` and `n` times the factor that forces carry, each in lowest terms. `None` exactly if a term is too wide.
 pub fn point(m: Whole, n: Whole, f: &Forces) -> Option<((i128, i128), (i128, i128))>
     requires first { IsFitting m.value }
     requires second { IsFitting n.value }

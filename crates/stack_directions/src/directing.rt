@@ -84,7 +84,7 @@ pub fn survey_towards(alloc: Global, s: &Survey, t: Towards) -> Result<Survey, A
 }
 
 /// The survey of a model without its sway and without its live loads but `i` and `j`, whose forces are multiplied by
-/// `m` and by `n`, from -1,000 to 1,000. Its bearings and touches are those of `s`. `AllocError` where memory ran out.
+/// `m` and by `n`, from -1,000 to 1,000. Its bearings and touches are those of `s`. `AllocError` if memory ran out.
 pub fn directed(
     alloc: Global,
     s: &Survey,

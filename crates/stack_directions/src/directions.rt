@@ -55,8 +55,8 @@ fn direction(bytes: &[u8]) -> Option<(i64, i64)>
 }
 
 /// The directions of a text, in the order of its lines: 1 to 64 lines `dir M N` with whole numbers from -1,000 to
-/// 1,000, not both 0. `Line` exactly where a line is faulty, with the number of the first one. Memory may run out at
-/// any time.
+/// 1,000, not both 0. `Line` exactly if a line is faulty, with the number of the first one. Memory may run out at any
+/// time.
 pub fn read_directions(alloc: Global, text: &[u8]) -> Result<Vec<(i64, i64)>, DirectionsError>
     ensures gives { GivesDirections result text.now }
     ensures reads { ReadsDirections result text.now }

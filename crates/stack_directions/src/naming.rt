@@ -1,4 +1,4 @@
-//! Two live loads, told by their numbers in a file.
+//! Two live loads, given by their numbers in a file.
 
 ghost use Rattle.std.specs.Prelude.{◌≡◌, ◌+◌, ℕ, IfSome, IfNone};
 ghost use Rattle.stack_model.specs.ModelView.{model_view};
@@ -47,7 +47,7 @@ fn slight_live(m: &Model, number: u32) -> Option<usize>
 }
 
 /// The numbers from 0 of two live loads, given from 1: neither has a component of more than 1,000,000 in size, and they
-/// differ. Else the first number that is in the way. Takes no memory.
+/// differ. Otherwise the first number that names no such load, or the second if it is the first again. Takes no memory.
 pub fn pair(m: &Model, i: u32, j: u32) -> Result<(usize, usize), NoPair>
     ensures means { Pairs (model_view m.now) i j result }
     ensures gives { GivesPair result (pair_of (model_view m.now) i j) }

@@ -52,7 +52,7 @@ module _ (q : Question) (v : Surveyed) (T : Tabled Fraction) where
   abbrev pub end_ray : ℕ → ForcesValue
   end_ray c = forces_value v.bearings (pos 0) (whole_list (ray_list (posed_shape q (scene_of v)) T c))
 
-  -- the motion of a last table of phase 1, by its objective cells less 1
+  -- the motion of a last table of phase 1, by its objective cells minus 1
   abbrev pub end_collapse : MotionValue
   end_collapse = motion_value (free_bodies (scene_of v)) (posed q (scene_of v))
       (whole_list (collapse_list (posed_shape q (scene_of v)) T))
@@ -62,7 +62,7 @@ module _ (q : Question) (v : Surveyed) (T : Tabled Fraction) where
   end_bound = motion_value (free_bodies (scene_of v)) (posed q (scene_of v))
       (whole_list (bound_list (posed_shape q (scene_of v)) T))
 
--- the certificate of an end; none where a number is too wide or the run is over its budget
+-- the certificate of an end; none if a number is too wide or the run is over its budget
 abbrev pub end_certificate : Question → Surveyed → End Fraction → Option CertificateValue
 end_certificate q v (infeasible T) = Some (collapses (end_collapse q v T))
 end_certificate q v (feasible T) = Some (stands (end_forces q v T))

@@ -1,4 +1,4 @@
--- The laws of the certificates of ends: they are true, answer the question and tell whether the dead loads stand.
+-- The laws of the certificates of ends: they are true, answer the question and say whether the dead loads stand.
 use Rattle.std.specs.Prelude.{◌≡◌, ℕ, pos, Some, ⊤}
 use Rattle.stack_algebra.specs.Fraction.{Fraction}
 use Rattle.stack_contact.specs.Surveyed.{Surveyed}
@@ -22,14 +22,14 @@ pub record IsEndOfRun (q : Question) (v : Surveyed) (x : End Fraction) : Type 0 
   pub budget : ℕ
   pub run : run_of (posed q (scene_of v)) rule budget ≡ x
 
--- the dead loads stand exactly where it isn't a collapse
+-- the dead loads stand exactly if it isn't a collapse
 abbrev pub TellsOfDeadLoads : Surveyed → CertificateValue → Type 0
 TellsOfDeadLoads v (stands f) = Carries (scene_of v) (pos 0) (pos 1)
 TellsOfDeadLoads v (collapses y) = ¬ (Carries (scene_of v) (pos 0) (pos 1))
 TellsOfDeadLoads v (greatest f y) = Carries (scene_of v) (pos 0) (pos 1)
 TellsOfDeadLoads v (unbounded base rise) = Carries (scene_of v) (pos 0) (pos 1)
 
--- a true certificate of the question, which tells whether the dead loads stand
+-- a true certificate of the question, which says whether the dead loads stand
 pub record IsCertified (q : Question) (v : Surveyed) (c : CertificateValue) : Type 0 where
   pub holds : IsTrueCertificate v c
   pub form : IsOfQuestion q c

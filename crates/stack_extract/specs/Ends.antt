@@ -38,8 +38,8 @@ pub record IsEndOfSurvey {V : Type 0} {number : Ghosts V} (q : Question) (v : Su
 abbrev pub IsEndOfSome : {V : Type 0} {number : Ghosts V} → Surveyed → Ended V number → Type 0
 IsEndOfSome v e = (q : Question) × IsEndOfSurvey q v e
 
--- an end of the survey's run that is told by its value, with the shape and the flips of its last table, whatever stores
--- it
+-- an end of the survey's run that is given by its value, with the shape and the flips of its last table, whatever
+-- stores it
 pub record IsLastOf (q : Question) (v : Surveyed) (S : Shape) (flips : ℕ → Bool) (x : End Fraction) : Type 0 where
   pub run : IsEndOfRun q v x
   pub shape : S ≡ posed_shape q (scene_of v)
@@ -49,7 +49,7 @@ pub record IsLastOf (q : Question) (v : Surveyed) (S : Shape) (flips : ℕ → B
 abbrev pub IsLastOfSome : Surveyed → Shape → (ℕ → Bool) → End Fraction → Type 0
 IsLastOfSome v S flips x = (q : Question) × IsLastOf q v S flips x
 
--- how an end is, without its table
+-- the kind of an end, without its table
 abbrev pub kind_of : {V : Type 0} {number : Ghosts V} → Ended V number → EndKind
 kind_of (Infeasible t) = kinds.Infeasible
 kind_of (Feasible t) = kinds.Feasible

@@ -1,6 +1,6 @@
--- The first number that is more than 2^127 - 1 in size among those that are made of an end, in their order: where
--- it is a motion of phase 1, an objective cell less 1; the common scale of the list; a whole number; where it is
--- forces or a ray, the parts of a bearing.
+-- The first number that is more than 2^127 - 1 in size among those that are made of an end, in their order: for a
+-- motion of phase 1, an objective cell minus 1; the common scale of the list; a whole number; for forces or a ray, the
+-- parts of a bearing.
 use Rattle.std.specs.Prelude.{◌≡◌, ℕ, ◌+◌, ◌*◌, ℤ, pos, ◌+ℤ◌, ◌-ℤ◌, ◌*ℤ◌, not, ◌&&◌, ltb, Option, Some, None}
 use Rattle.std.specs.Prelude.{List, length, get_or, take, Bool, ⊤}
 use Rattle.stack_algebra.specs.Listed.{listed}
@@ -33,7 +33,7 @@ use Rattle.stack_extract.specs.declared.types.ExtractError.TheVariants.{TooWide,
 abbrev pub extract_place : Numbers → EndStep → ℕ → ExtractPlace
 extract_place l s i = record { list = l; step = s; index = i }
 
--- an error other than want of memory tells the first place
+-- unless memory ran out, an error names the first place
 abbrev pub TellsPlace : ExtractError → Option ExtractPlace → Type 0
 TellsPlace (TooWide p) o = o ≡ Some p
 TellsPlace Memory o = ⊤
@@ -80,7 +80,7 @@ module _ (l : Numbers) where
   push_place bs xs = or_else (list_place xs) (part_place bs (whole_list xs))
 
 module _ (S : Shape) (T : Tabled Fraction) where
-  -- the objective cell of a row's artificial column less 1 is too wide
+  -- the objective cell of a row's artificial column minus 1 is too wide
   abbrev pub shift_spot : ℕ → Option ExtractPlace
   shift_spot k = only_if (is_too_wide widest Difference (bound_number S T k) (of (pos 1)))
       (extract_place Motion Shift k)

@@ -54,7 +54,7 @@ module _ (P : Problem) where
   EndIsWhole over = ⊤
   EndIsWhole never = ⊤
 
--- of a problem with at most one factor column every end of a run shows this, whatever is too wide and whatever the
+-- every end of a run of a problem with at most one factor column shows this, whatever is too wide and whatever the
 -- budget
 abbrev pub EndsAreWhole : Type 0
 EndsAreWhole = (P : Problem) → P.shape.factors ≤ 1 → (rule : Rule) (budget : ℕ) →

@@ -13,7 +13,7 @@ whole_list xs = map (times_scale (scale_of xs)) xs
 abbrev pub amount : List ℤ → ℕ → ℤ
 amount zs j = get_or zs j (pos 0)
 
--- the multiplier of row k of the problem: with the other sign where the row is flipped
+-- the multiplier of row k of the problem: with the other sign if the row is flipped
 abbrev pub multiplier : Problem → List ℤ → ℕ → ℤ
 multiplier P zs k = turned (flipped P k) (amount zs k)
 

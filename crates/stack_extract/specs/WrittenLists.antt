@@ -11,7 +11,7 @@ use Rattle.stack_table.specs.Table.{Shape, Tabled, plain, objective}
 use Rattle.stack_run.specs.EndNumbers.{column_value, rate}
 
 module _ (S : Shape) (T : Tabled Fraction) where
-  -- the value of column j; 0 for the factor where it has no column
+  -- the value of column j; 0 for the factor if it has no column
   abbrev pub forces_number : ℕ → Fraction
   forces_number j = cond (ltb j (plain S)) (column_value ordered_fractions S T j) (of (pos 0))
 
@@ -19,7 +19,7 @@ module _ (S : Shape) (T : Tabled Fraction) where
   abbrev pub forces_list : List Fraction
   forces_list = listed (suc S.contacts) forces_number
 
-  -- the rate of column j on the ray of column c; 0 for the factor where it has no column
+  -- the rate of column j on the ray of column c; 0 for the factor if it has no column
   abbrev pub ray_number : ℕ → ℕ → Fraction
   ray_number c j = cond (ltb j (plain S)) (rate ordered_fractions S T c j) (of (pos 0))
 
@@ -35,10 +35,10 @@ module _ (S : Shape) (T : Tabled Fraction) where
   abbrev pub bound_list : List Fraction
   bound_list = listed S.rows bound_number
 
-  -- the objective cell of a row's artificial column less 1, as in phase 1
+  -- the objective cell of a row's artificial column minus 1, as in phase 1
   abbrev pub collapse_number : ℕ → Fraction
   collapse_number k = less ordered_fractions (bound_number k) (of (pos 1))
 
-  -- the objective cells of the artificial columns of all rows, in order, each less 1
+  -- the objective cells of the artificial columns of all rows, in order, each minus 1
   abbrev pub collapse_list : List Fraction
   collapse_list = listed S.rows collapse_number

@@ -10,9 +10,9 @@ pub fn end_law()
     ensures { EndsAreWhole }
 {}
 
-/// Whatever is too wide in a run, and whatever its budget: the certificate of its end is true of the survey and
-/// answers the question, the dead loads stand exactly where it isn't a collapse, and no amount of forces or of a
-/// ray is negative. An end without a factor comes only for dead loads, one with a factor only for live loads.
+/// Whatever is too wide in a run, and whatever its budget: the certificate of its end is true of the survey and answers
+/// the question, the dead loads stand exactly if it isn't a collapse, and no amount of forces or of a ray is negative.
+/// An end without a factor comes only for dead loads, one with a factor only for live loads.
 pub fn certified_laws()
     ensures certified { EndsAreCertified }
     ensures question { EndsAreOfTheQuestion }

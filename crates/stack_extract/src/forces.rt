@@ -82,7 +82,7 @@ fn entering<S: Exact>(e: &Ended<S>) -> usize
     }
 }
 
-/// How an end is, without its table.
+/// The kind of an end, without its table.
 pub fn kind_of<S: Exact>(e: &Ended<S>) -> EndKind
     ensures { result ≡ kind_of e.now }
 {
@@ -150,7 +150,7 @@ pub fn ray_at<L: LastTable>(
 /// values of the columns at their common scale, and for each bearing `q` times the sum of its two along the
 /// normal and `p` times their difference along the tangent, in sixths of a unit of force.
 ///
-/// Refused exactly where one of these is more than 2^127 - 1 in size, with the first that is, or where memory ran out.
+/// Refused exactly if one of these is more than 2^127 - 1 in size, with the first that is, or if memory ran out.
 pub fn forces_of<S: Exact>(alloc: Global, s: &Survey, e: &Ended<S>) -> Result<Forces, ExtractError>
     requires end { IsEndOfSome s.now e.now }
     requires forces { HasForces (ended_as e.now) }

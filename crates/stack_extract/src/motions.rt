@@ -37,7 +37,7 @@ use stack_tableau::{EndKind, Ended, LastTable};
 use stack_whole::Whole;
 use std::alloc::{AllocError, Global};
 
-/// The multiplier of a row, with the other sign where the row is flipped.
+/// The multiplier of a row, with the other sign if the row is flipped.
 fn multiplier<L: LastTable>(t: &L, numbers: &[i128], row: usize) -> Whole
     requires row { row < (L.shape t.now).rows }
     requires listed { row < length numbers.now }
@@ -154,11 +154,11 @@ pub fn motion_at<L: LastTable>(
     }
 }
 
-/// The motion of the end of a survey's run, in whole numbers of 128 bits whatever the width of the run: the
-/// objective cells of the artificial columns, less 1 where no amounts balance, at their common scale, with the
-/// other sign in flipped rows; three for each free block.
+/// The motion of the end of a survey's run, in whole numbers of 128 bits whatever the width of the run: the objective
+/// cells of the artificial columns, minus 1 if no amounts balance, at their common scale, with the other sign in
+/// flipped rows; three for each free block.
 ///
-/// Refused exactly where one of these is more than 2^127 - 1 in size, with the first that is, or where memory ran out.
+/// Refused exactly if one of these is more than 2^127 - 1 in size, with the first that is, or if memory ran out.
 pub fn motion_of<S: Exact>(alloc: Global, s: &Survey, e: &Ended<S>) -> Result<Motion, ExtractError>
     requires end { IsEndOfSome s.now e.now }
     requires motion { HasMotion (ended_as e.now) }

@@ -42,7 +42,7 @@ fn value<L: LastTable>(t: &L, column: usize) -> Frac<i128>
     }
 }
 
-/// The rate of a column where `entering` rises by 1.
+/// The rate of a column as `entering` rises by 1.
 fn rate<L: LastTable>(t: &L, entering: usize, column: usize) -> Frac<i128>
     requires { L.reads t.now entering ≡ true }
     ensures { result ≡ rate ordered_fractions (L.shape t.now) (L.table t.now) entering column }
@@ -141,7 +141,7 @@ fn longer(mut numbers: Vec<Frac<i128>>, number: Frac<i128>) -> Result<Vec<Frac<i
     Ok(numbers)
 }
 
-/// The objective cells of the artificial columns, each less 1. Refused at the first difference that is too wide.
+/// The objective cells of the artificial columns, each minus 1. Refused at the first difference that is too wide.
 pub(crate) fn collapse_numbers<L: LastTable>(
     alloc: Global,
     t: &L,

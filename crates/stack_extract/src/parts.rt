@@ -23,7 +23,7 @@ fn amount(numbers: &[i128], column: usize) -> Whole
     }
 }
 
-/// An amount less another, neither negative.
+/// An amount minus another, neither negative.
 fn difference(w: Whole, v: Whole) -> Whole
     requires w { pos 0 ≤ℤ w.value }
     requires v { pos 0 ≤ℤ v.value }

@@ -20,7 +20,7 @@ pub enum Numbers {
 /// A step from a list to the numbers of a certificate.
 #[derive(Clone, Copy, Debug, PartialEq, Eq)]
 pub enum EndStep {
-    /// An objective cell less 1; the index is its row.
+    /// An objective cell minus 1; the index is its row.
     Shift,
     /// The common scale of the list; the index is that of an item.
     Scale,

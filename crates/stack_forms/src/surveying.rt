@@ -1,4 +1,4 @@
-//! The survey of the model in a file, whose refusals tell bodies by their names.
+//! The survey of the model in a file, whose refusals name bodies.
 
 ghost use Rattle.std.specs.Prelude.{◌≡◌, [], map, get_or, IfOk, string_bytes};
 ghost use Rattle.stack_outside.specs.Seen.{seen_shelf};
@@ -27,7 +27,7 @@ fn names_of(alloc: Global, model: &Model) -> Result<Vec<String>, AllocError>
     Ok(names)
 }
 
-/// A name by its number; empty where there is none.
+/// A name by its number; empty if there is none.
 fn name_at(names: &[String], i: usize) -> &str
     ensures { result.now ≡ get_or (map string_bytes names.now) i [] }
 {

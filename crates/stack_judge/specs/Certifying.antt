@@ -42,12 +42,12 @@ GivesChecked (Err (errors.Spent n)) q v x = ⊥
 GivesChecked (Err errors.NoLive) q v x = ⊥
 GivesChecked (Err errors.Memory) q v x = ⊤
 
--- why there is no judgement where a run within a budget has no end
+-- why there is no judgement if a run within a budget has no end
 abbrev pub unjudged_as : RunError → (budget : ℕ) → JudgeError
 unjudged_as (runs.TooWide p) budget = errors.TooWide (places.Run p)
 unjudged_as runs.Spent budget = errors.Spent budget
 
--- what a revised run that has no end tells of the judgement: nothing where it isn't settled
+-- what a revised run that has no end says of the judgement: nothing if it isn't settled
 abbrev pub stopped_answer : RevisedStop → (budget : ℕ) → Option (Result Certificate JudgeError)
 stopped_answer (stops.TooWide p) budget = Some (Err (errors.TooWide (places.Run p)))
 stopped_answer stops.Spent budget = Some (Err (errors.Spent budget))

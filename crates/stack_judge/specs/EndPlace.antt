@@ -37,7 +37,7 @@ in_check checks.Accepted = None
 in_check (checks.Rejected part reason) = None
 in_check (checks.TooWide p) = Some (places.Check p)
 
--- the place at which the check of a certificate is too wide, where there is one
+-- the place at which the check of a certificate is too wide, if there is one
 abbrev pub check_place : Surveyed → Option CertificateValue → Option JudgePlace
 check_place v None = None
 check_place v (Some c) = in_check (written_check v c)

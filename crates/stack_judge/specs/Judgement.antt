@@ -1,6 +1,6 @@
 -- The judgement of a survey: the certificate of the end of its written run at 128 bits, the place of the first number
--- that is too wide, or that the budget is spent. That a question about live loads wants one is asked before,
--- and is a case of `Judges` alone.
+-- that is too wide, or that the budget is spent. A question about live loads needs one: that is asked before, and is a
+-- case of `Judges` alone.
 use Rattle.std.specs.Prelude.{◌≡◌, ◌≢◌, ℕ, Option, Some, None, Result, Ok, Err, ⊤}
 use Rattle.stack_algebra.specs.Fraction.{Fraction}
 use Rattle.stack_rational.specs.Laws.{widest}
@@ -23,7 +23,7 @@ use Rattle.stack_judge.specs.declared.types.JudgeError.{JudgeError}
 use Rattle.stack_judge.specs.declared.types.JudgeError.TheVariants as errors
 use Rattle.stack_judge.specs.EndPlace.{end_place}
 
--- a certificate is found, a number is too wide, or the budget is spent. That an end is unjudged never comes
+-- a certificate is found, a number is too wide, or the budget is spent. No end is ever unjudged
 pub data Judgement : Type 0 where
   certified : CertificateValue → Judgement
   too_wide : JudgePlace → Judgement
@@ -54,7 +54,7 @@ judgement_of q v (ray T c) = judged_by (end_place q v (ray T c)) (end_certificat
 abbrev pub survey_run : Question → Surveyed → (budget : ℕ) → End Fraction
 survey_run q v budget = run_at widest (posed q (scene_of v)) budget
 
--- what comes of a question of a survey within a budget of pivots, by its written run
+-- the judgement of a question of a survey within a budget of pivots, by its written run
 abbrev pub judgement : Question → Surveyed → (budget : ℕ) → Judgement
 judgement q v budget = judgement_of q v (survey_run q v budget)
 

@@ -1,5 +1,5 @@
--- The columns of the problem of a survey, all but the right side: two for each bearing, one for the live loads where
--- these are asked about, and three for each free block.
+-- The columns of the problem of a survey, all but the right side: two for each bearing, one for the live loads if these
+-- are asked about, and three for each free block.
 use Rattle.std.specs.Prelude.{◌≡◌, ℕ, ◌+◌, ◌*◌, length}
 use Rattle.stack_contact.specs.FreeBlocks.{frees_of}
 use Rattle.stack_contact.specs.Surveyed.{Surveyed}
@@ -9,7 +9,7 @@ use Rattle.stack_equilibrium.specs.SurveyScene.{scene_of}
 use Rattle.stack_table.specs.Table.{columns}
 use Rattle.stack_posing.specs.Posed.{posed}
 
--- the live loads have one column where they are asked about, else none
+-- the live loads have one column if they are asked about, else none
 abbrev pub live_columns : Question → ℕ
 live_columns Dead = 0
 live_columns Live = 1

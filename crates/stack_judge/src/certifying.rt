@@ -80,8 +80,8 @@ pub fn certify_at<L: LastTable>(
     }
 }
 
-/// The certificate of the end of a survey's run, where no number of it is too wide, nor one of its check. The check
-/// never rejects it.
+/// The certificate of the end of a survey's run, if no number of it is too wide, nor one of its check. The check never
+/// rejects it.
 pub fn certify<S: Exact>(alloc: Global, s: &Survey, e: &Ended<S>) -> Result<Certificate, JudgeError>
     requires { IsEndOfSome s.now e.now }
     ensures gives { (q : Question) → IsEndOfSurvey q s.now e.now → GivesChecked result q s.now (ended_as e.now) }

@@ -47,7 +47,7 @@ fn table_of_survey(alloc: Global, s: &Survey, q: Question) -> Result<Table<Frac<
     }
 }
 
-/// Why there is no judgement where a run has no end.
+/// Why there is no judgement if a run has no end.
 fn refused(error: RunError, budget: u32) -> JudgeError
     ensures { result ≡ unjudged_as error budget }
 {
@@ -76,7 +76,7 @@ pub fn judge_broad(
     }
 }
 
-/// The judgement by the run at 64 bits or, where a number is too wide there, at 128; and whether none is.
+/// The judgement by the run at 64 bits or, if a number is too wide there, at 128; and whether none is.
 fn judge_by_width(
     alloc: Global,
     s: &Survey,
@@ -101,8 +101,8 @@ fn judge_by_width(
     }
 }
 
-/// Judges as `judge` does, with the same refusals, and tells whether no number of the table or of the run is more
-/// than 2^63 - 1 in size: then all of the run was done at 64 bits. Else its table is dropped, and the work done at 128.
+/// Judges as `judge` does, with the same refusals, and says whether no number of the table or of the run is more than
+/// 2^63 - 1 in size: then all of the run was done at 64 bits. Else its table is dropped, and the work done at 128.
 pub fn judge_marked(
     alloc: Global,
     s: &Survey,
@@ -121,7 +121,7 @@ pub fn judge_marked(
     judge_by_width(alloc, s, q, budget)
 }
 
-/// The judgement by the revised run or, where that doesn't settle it, by the run at 128 bits.
+/// The judgement by the revised run or, if that doesn't settle it, by the run at 128 bits.
 fn judge_by_run(
     alloc: Global,
     s: &Survey,
@@ -144,10 +144,10 @@ fn judge_by_run(
 /// Judges the dead or the live loads of a survey: a true certificate of the question whose numbers all fit 128 bits
 /// and which the check accepts, by the exact simplex run after Bland (1977) within a budget of pivots.
 ///
-/// Refused are, in this order: a question about live loads where none is listed; the first number of the run, of the
+/// Refused are, in this order: a question about live loads if none is listed; the first number of the run, of the
 /// numbers that are made of its end, or of the check that is more than 2^127 - 1 in size, with its place; a run in
-/// which a pivot is due when the budget's are done, which doesn't come where the budget is `enough` for the columns
-/// of the survey's problem. Memory may run out at any time. After Livesley (1978).
+/// which a pivot is due when the budget's are done, which can't happen if the budget is `enough` for the columns of the
+/// survey's problem. Memory may run out at any time. After Livesley (1978).
 pub fn judge(alloc: Global, s: &Survey, q: Question, budget: u32) -> Result<Certificate, JudgeError>
     requires { budget ≢ 0 }
     ensures judges { Judges result q s.now budget }

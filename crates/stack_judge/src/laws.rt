@@ -6,8 +6,8 @@ ghost use Rattle.stack_judge.specs.ProblemColumns.{TablesHaveThese};
 
 use stack_posing::free_body_laws;
 
-/// The table of a survey's problem has two columns for each bearing, one for the live loads where these are asked
-/// about, and three for each free block, beside the right side.
+/// The table of a survey's problem has two columns for each bearing, one for the live loads if these are asked about,
+/// and three for each free block, besides the right side.
 pub fn columns_law()
     ensures { TablesHaveThese }
 {
@@ -15,8 +15,8 @@ pub fn columns_law()
 }
 
 /// Each end of a run is judged: a certificate is found, a number is too wide, or the budget is spent. A certificate
-/// answers the question. It is true and tells whether the dead loads stand, where the scene is proper; of a survey of
-/// a structure within its limits it is accepted, its numbers fit and its lists are few.
+/// answers the question. If the scene is proper, it is true and says whether the dead loads stand; for a survey of a
+/// structure within its limits it is accepted, its numbers fit and its lists are few.
 pub fn judgement_law()
     ensures ends { EachEndIsJudged }
     ensures question { JudgementsAreOfTheQuestion }

@@ -1,4 +1,4 @@
-//! The judgement at 64 bits, where no number is too wide.
+//! The judgement at 64 bits, if no number is too wide.
 
 ghost use Rattle.std.specs.Prelude.{◌≡◌, ◌≢◌, IfOk, IfSome, None, is_some, true, false};
 ghost use Rattle.stack_certificate.specs.Certificate.{certificate_view};
@@ -19,7 +19,7 @@ use stack_simplex::{RunError, run};
 use stack_table::{BuildError, Table};
 use std::alloc::{AllocError, Global};
 
-/// The written table of a survey's problem at 64 bits, where nothing of it is too wide.
+/// The written table of a survey's problem at 64 bits, if nothing of it is too wide.
 pub fn narrow_table(
     alloc: Global,
     s: &Survey,
@@ -36,8 +36,8 @@ pub fn narrow_table(
     }
 }
 
-/// The judgement by a run at 64 bits; None exactly where a number of its table or of the run is too wide. A run
-/// there that is nowhere too wide is the run at 128 bits.
+/// The judgement by a run at 64 bits; None exactly if a number of its table or of the run is too wide. A run there that
+/// is nowhere too wide is the run at 128 bits.
 pub fn judge_narrow(
     alloc: Global,
     s: &Survey,

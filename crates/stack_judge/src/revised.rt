@@ -29,7 +29,7 @@ fn certify_last(alloc: Global, s: &Survey, last: &Last) -> Result<Certificate, J
     certify_at(alloc, s, last.kind, last)
 }
 
-/// What a revised run that has no end tells of the judgement; None where it isn't settled.
+/// What a revised run that has no end says of the judgement; None if it isn't settled.
 fn stopped(stop: RevisedStop, budget: u32) -> Option<Result<Certificate, JudgeError>>
     ensures { result ≡ stopped_answer stop budget }
 {
@@ -41,7 +41,7 @@ fn stopped(stop: RevisedStop, budget: u32) -> Option<Result<Certificate, JudgeEr
     }
 }
 
-/// The judgement by the revised run; None where that doesn't settle it.
+/// The judgement by the revised run; None if that doesn't settle it.
 pub fn judge_revised(
     alloc: Global,
     s: &Survey,

@@ -9,13 +9,13 @@ use Rattle.stack_checker.specs.declared.types.CheckAt.{CheckAt}
 use Rattle.stack_checker.specs.declared.types.CheckAt.TheVariants as spots
 use Rattle.stack_lines.specs.Refusals.{part_word, axis_word, Place, cone_at, balance_of, resisted_at, work, apart}
 
--- The name of the free block with this number, counted from 0 among the free blocks; empty where there is none.
+-- The name of the free block with this number, counted from 0 among the free blocks; empty if there is none.
 abbrev pub block_name : Structure → ℕ → List ℕ
 block_name s block =
     let frees = frees_of s.bodies in
     if nat_lt block (length frees) then (body_of s (slice_index frees block)).name else []
 
--- Why a certificate is rejected. A bearing is told by its number from 1, a block by its name.
+-- Why a certificate is rejected. A bearing goes by its number from 1, a block by its name.
 abbrev pub reason_text : Structure → Reason → List ℕ
 reason_text s reasons.Count = codes "count"
 reason_text s reasons.Scale = codes "scale"
@@ -36,7 +36,7 @@ abbrev pub rejected_text : Structure → Part → Reason → List ℕ
 rejected_text s part reason =
     codes "rejected " ++ part_word part ++ codes " " ++ reason_text s reason ++ 10 ∷ []
 
--- The place of a number of the check that is too wide. A block is told by its name.
+-- The place of a number of the check that is too wide. A block goes by its name.
 abbrev pub place_of : Structure → CheckAt → Place
 place_of s (spots.Cone k) = cone_at k
 place_of s (spots.Balance block axis) = balance_of (block_name s block) axis

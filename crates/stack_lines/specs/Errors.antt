@@ -1,5 +1,5 @@
 -- Why the errors of other crates are refusals: those of a model's text, of a built-in model, of the text of an order
--- and of that of directions. Want of memory is a case of each.
+-- and of that of directions. That memory ran out is a case of each.
 use Rattle.stack_model.specs.declared.errors.ModelError.TheVariants as contents
 use Rattle.stack_reader.specs.declared.errors.ReadError.{ReadError}
 use Rattle.stack_reader.specs.declared.errors.ReadError.TheVariants as reading
@@ -17,7 +17,7 @@ from_read reading.Memory = memory
 from_read (reading.Model contents.Memory) = memory
 from_read e = content e
 
--- Why a built-in model isn't built: it has no such size, or memory is wanting.
+-- Why a built-in model isn't built: it has no such size, or memory ran out.
 abbrev pub built_fault : StackError → Fault
 built_fault built.Size = size
 built_fault built.Memory = memory

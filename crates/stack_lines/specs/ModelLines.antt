@@ -1,5 +1,4 @@
--- What the line of a model that isn't read says: the fault, its place and its key. Items are told by their numbers
--- from 1.
+-- What the line of a model that isn't read says: the fault, its place and its key. Items go by their numbers from 1.
 use Rattle.std.specs.Prelude.{ℕ, ◌+◌, List, ◌++◌, codes, decimal}
 use Rattle.stack_model.specs.declared.places.Spot.{Spot}
 use Rattle.stack_model.specs.declared.places.Spot.TheVariants.{Top, Material, Joint, Block, Load}
@@ -28,7 +27,7 @@ what_word whats.Free = codes "free"
 what_word whats.Fixed = codes "fixed"
 what_word whats.Loads = codes "loads"
 
--- A fault of the content. Want of memory has no line of a model.
+-- A fault of the content. That memory ran out has no line of a model.
 unfoldable pub content_text : ModelError → List ℕ
 content_text (contents.Range spot key) = codes "range " ++ spot_text spot ++ codes " " ++ word_of key
 content_text (contents.SameName spot) = codes "same name " ++ spot_text spot

@@ -36,12 +36,12 @@ pub data Place : Type 0 where
   work : Place
   apart : Place
 
--- Why the work on a form refuses: a file is too long; the model's file has a fault; two bodies overlap, told by their
--- names; the bearings are too many; a built-in model has no such size; the certificate's text ends to be one at a line,
--- from 1; the order's text, or that of the directions, is faulty at a line, from 1; a number of the check, of the run,
--- of what is made of its end, of a reach or of the table of forces is too wide; a pivot is due when the budget's are
--- done; no live load is listed; two numbers name no two loads that make a region, and this one is in the way; memory is
--- wanting.
+-- Why the work on a form refuses: a file is too long; the model's file has a fault; two bodies overlap, which go by
+-- their names; the bearings are too many; a built-in model has no such size; no certificate can begin with the lines of
+-- the certificate's text up to one, which is counted from 1; the order's text, or that of the directions, is faulty at
+-- a line, from 1; a number of the check, of the run, of what is made of its end, of a reach or of the table of forces
+-- is too wide; a pivot is due when the budget's are done; no live load is listed; two numbers name no two loads that
+-- make a region, and this one is at fault; memory ran out.
 pub data Fault : Type 0 where
   long : Input → Fault
   content : ReadError → Fault
@@ -76,7 +76,7 @@ place_view (code_places.Resisted k) = resisted_at k
 place_view code_places.Work = work
 place_view code_places.Apart = apart
 
--- A refusal by its meaning: names are bytes, and want of memory is a fault of the work.
+-- A refusal by its meaning: names are bytes, and that memory ran out is a fault of the work.
 abbrev pub refusal_view : CodeRefusal → Refusal
 refusal_view code.Words = words
 refusal_view (code.File input) = file input
@@ -119,7 +119,7 @@ fault_status (order_line number) = 13
 fault_status (directions_line number) = 14
 fault_status (no_pair load) = 15
 
--- Words, files and the output have statuses of their own; a fault of the work has that above.
+-- Words, files and the output have statuses of their own; a fault of the work has the status above.
 abbrev pub status_of : Refusal → ℕ
 status_of words = 2
 status_of (file input) = 3
@@ -176,7 +176,7 @@ run_text p = decimal p.phase ++ codes " " ++ decimal p.pivot ++ codes " " ++ spo
 abbrev pub end_text : ExtractPlace → List ℕ
 end_text p = numbers_word p.list ++ codes " " ++ end_step_word p.step ++ codes " " ++ decimal p.index
 
--- A bearing is told by its number from 1.
+-- A bearing goes by its number from 1.
 abbrev pub place_text : Place → List ℕ
 place_text (cone_at k) = codes "cone " ++ decimal (k + 1)
 place_text (balance_of name axis) = codes "balance " ++ name ++ codes " " ++ axis_word axis
@@ -194,8 +194,8 @@ reach_word reach_places.First = codes "first"
 reach_word reach_places.Second = codes "second"
 reach_word reach_places.Point = codes "point"
 
--- Of which of a form's judgements a line tells: of its only one or its first, of the least side of a range, of a stage
--- of an order of building, or of a direction of two loads, each by its number from 1.
+-- Which of a form's judgements a line is about: its only one or its first, the least side of a range, a stage of an
+-- order of building, or a direction of two loads, each by its number from 1.
 abbrev pub within_text : Within → List ℕ
 within_text withins.Whole = []
 within_text withins.LeastSide = codes "least "

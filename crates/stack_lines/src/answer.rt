@@ -15,14 +15,14 @@ use std::alloc::{AllocError, Global};
 /// What an answer says.
 #[derive(Clone, Copy)]
 pub enum Verdict {
-    /// What was asked is so: a certificate is accepted, the structure carries what is asked, a table is given.
+    /// The answer is yes: a certificate is accepted, the structure carries what is asked, a table is given.
     Affirmed,
-    /// It isn't: the certificate is rejected, or the structure collapses.
+    /// It is no: the certificate is rejected, or the structure collapses.
     Denied,
 }
 
 impl Verdict {
-    /// The status with which the program ends where the answer is written.
+    /// The status with which the program ends if the answer is written.
     pub fn status(self) -> u8
         ensures { result ≡ verdict_status self }
     {
@@ -40,7 +40,7 @@ pub struct Answer {
     pub text: Vec<u8>,
 }
 
-/// The name of a free block, counted from 0 among the free blocks; empty where there is none. Takes no memory.
+/// The name of a free block, counted from 0 among the free blocks; empty if there is none. Takes no memory.
 pub fn block_name(survey: &Survey, block: usize) -> &str
     ensures { result.now ≡ name_of_block survey.now.structure block }
 {

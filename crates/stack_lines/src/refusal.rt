@@ -102,13 +102,13 @@ pub enum Refusal {
     CertificateLine {
         number: usize,
     },
-    /// The order's file tells no order: this line, from 1, is the first that isn't ended by a line feed, names no free
+    /// The order's file gives no order: this line, from 1, is the first that isn't ended by a line feed, names no free
     /// block, or names the block of an earlier line.
     OrderLine {
         number: usize,
     },
-    /// The file of the directions tells none: this line, from 1, is the first that is no direction with a line feed, or
-    /// the 65th, or 1 where there is no line.
+    /// The file of the directions gives none: this line, from 1, is the first that is no direction with a line feed, or
+    /// the 65th, or 1 if there is no line.
     DirectionsLine {
         number: usize,
     },
@@ -144,13 +144,13 @@ pub enum Refusal {
     /// No live load is listed.
     NoLive,
     /// Two numbers name no two loads that make a region. This is the first of them that names no live load, or one with
-    /// a component of more than 1,000,000 in size, or the second where it is the first.
+    /// a component of more than 1,000,000 in size, or the second if it is the first again.
     NoPair {
         load: u32,
     },
     /// The answer isn't written.
     Output,
-    /// Memory is wanting.
+    /// Memory ran out.
     Memory,
 }
 
@@ -208,7 +208,7 @@ fn axis_text(axis: Axis) -> &'static str
     }
 }
 
-/// One of the three sums of a block, told by the block's name.
+/// One of the three sums of a block, with the block's name.
 #[derive(Clone, Copy)]
 pub struct BlockSum<'a> {
     pub name: &'a str,

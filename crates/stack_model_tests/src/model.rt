@@ -114,7 +114,7 @@ fn are_named(model: &Model) -> bool {
         && model.name(1) == "post"
 }
 
-/// What is told of the model without a fault.
+/// What the calls say of the model without a fault.
 const FAULTLESS: Told = (
     Material {
         weight: 2,
@@ -142,7 +142,7 @@ const FAULTLESS: Told = (
     },
 );
 
-/// Whether that is told, the names are right, and there is a live load.
+/// Whether they say that, the names are right, and there is a live load.
 fn is_faultless(model: &Model) -> [bool; 3] {
     [
         told(model) == Some(FAULTLESS),
@@ -235,7 +235,7 @@ fn is_stilled(alloc: Global, model: &Model) -> bool {
     }
 }
 
-/// What is told of the model of the second parts.
+/// What the calls say of the model of the second parts.
 const SECOND: ToldSecond = (
     2,
     (1, -2),

@@ -6,7 +6,7 @@ use stack_polygon::Span;
 use std::alloc::Global;
 use std::test::*;
 
-/// Of two outlines the first separating edge, if there is one, and what they have in common.
+/// The first separating edge of two outlines, if there is one, and what they have in common.
 fn pair(
     alloc: Global,
     first: &[(i64, i64)],

@@ -22,13 +22,13 @@ fn model_of(alloc: Global, text: &[u8]) -> Option<Model> {
     read_model(alloc, text).ok()
 }
 
-/// The model that a text tells, as text.
+/// The model that a text describes, as text.
 fn shown(alloc: Global, text: &[u8]) -> Option<String> {
     let model = model_of(alloc, text)?;
     format!(in alloc; "{model:?}").ok()
 }
 
-/// The model that a text tells, as it is written.
+/// The model that a text describes, as it is written.
 fn written(alloc: Global, text: &[u8]) -> Option<Vec<u8>> {
     let model = model_of(alloc, text)?;
     write_model(alloc, &model).ok()
@@ -64,7 +64,7 @@ fn told_of(alloc: Global, text: &[u8]) -> Option<Told> {
     Some(told(&model))
 }
 
-/// Whether this is told of the model of a text, and it is read back as it was written.
+/// Whether the model of a text has these, and is read back as it was written.
 fn is_told_and_read_back(alloc: Global, pieces: &[&str], wanted: Told) -> bool {
     match pieces.concat(alloc) {
         Ok(text) => {
@@ -75,7 +75,7 @@ fn is_told_and_read_back(alloc: Global, pieces: &[&str], wanted: Told) -> bool {
     }
 }
 
-/// Also where it has a joint and a sway.
+/// Also if it has a joint and a sway.
 #[test]
 fn a_written_model_is_read_back(rt: HostRuntime) {
     let alloc = rt.alloc();

@@ -1,4 +1,4 @@
--- The order of building that a text tells: each line is the name of a free block and a line feed, each block once.
+-- The order of building that a text gives: each line is the name of a free block and a line feed, each block once.
 use Rattle.std.specs.Prelude.{◌≡◌, ℕ, suc, ◌<◌, nat_eq, Bool, false, not, ◌&&◌, List, [], ◌∷◌, ◌++◌, length, map}
 use Rattle.std.specs.Prelude.{slice_get, Option, Some, None, Result, Ok, Err, position, if◌then◌else◌, ⊤}
 use Rattle.std.specs.Str.{bytes_eq}
@@ -21,7 +21,7 @@ is_free_line line b = not b.fixed && bytes_eq line (block_line b)
 abbrev pub block_named : Structure → List ℕ → Option ℕ
 block_named s line = position (is_free_line line) s.bodies
 
--- a number, where it isn't one of these already
+-- a number, if it isn't one of these already
 abbrev pub unless_among : List ℕ → Option ℕ → Option ℕ
 unless_among ns None = None
 unless_among ns (Some n) = if list_any (λ m. nat_eq m n) ns then None else Some n
@@ -30,17 +30,17 @@ unless_among ns (Some n) = if list_any (λ m. nat_eq m n) ns then None else Some
 abbrev pub next_block : Structure → List ℕ → List ℕ → Option ℕ
 next_block s ns line = unless_among ns (block_named s line)
 
--- one more block, or the number of the line that tells none
+-- one more block, or the number of the line that names none
 abbrev pub with_next : (List ℕ → Result (List ℕ) ℕ) → List ℕ → Option ℕ → Result (List ℕ) ℕ
 with_next more ns None = Err (suc (length ns))
 with_next more ns (Some n) = more (ns ++ n ∷ [])
 
--- the order that these lines tell behind these blocks
+-- the order that these lines give behind these blocks
 abbrev pub order_over : Structure → List ℕ → List (List ℕ) → Result (List ℕ) ℕ
 order_over s ns [] = Ok ns
 order_over s ns (line ∷ more) = with_next (λ ms. order_over s ms more) ns (next_block s ns line)
 
--- the order that a text tells, or the number of its first faulty line, from 1
+-- the order that a text gives, or the number of its first faulty line, from 1
 abbrev pub told_order : Structure → List ℕ → Result (List ℕ) ℕ
 told_order s text = order_over s [] (cut text)
 
@@ -48,7 +48,7 @@ told_order s text = order_over s [] (cut text)
 abbrev pub order_lines : Structure → List ℕ → List (List ℕ)
 order_lines s ns = map (λ n. block_line (body_of s n)) ns
 
--- these lines before it tell an order, and this line is no free block's, or that of an earlier one
+-- these lines before it give an order, and this line is no free block's, or that of an earlier one
 pub record IsFaultyLine (s : Structure) (number : ℕ) (lines : List (List ℕ)) : Type 0 where
   pub before : List ℕ
   pub are_order : IsOrder s before

@@ -41,7 +41,7 @@ fn named(model: &Model, line: &[u8]) -> Option<usize>
     None
 }
 
-/// The number of the block whose line this is, where it isn't in the order yet.
+/// The number of the block whose line this is, if it isn't in the order yet.
 pub fn next_block(model: &Model, order: &[usize], line: &[u8]) -> Option<usize>
     ensures { result ≡ next_block_of (model_view model.now) order.now line.now }
 {

@@ -9,9 +9,9 @@ use stack_certificate::cut_line;
 use stack_model::Model;
 use std::alloc::Global;
 
-/// The blocks that a text names, one for each of its lines, in their order. `Line` exactly where a line isn't ended by
-/// a line feed, names no free block, or names the block of an earlier line, with the number of the first such. Memory
-/// may run out at any time.
+/// The blocks that a text names, one for each of its lines, in their order. `Line` exactly if a line isn't ended by a
+/// line feed, names no free block, or names the block of an earlier line, with the number of the first such line.
+/// Memory may run out at any time.
 pub fn read_order(alloc: Global, m: &Model, text: &[u8]) -> Result<Vec<usize>, OrderError>
     ensures { GivesOrder (model_view m.now) result text.now }
 {

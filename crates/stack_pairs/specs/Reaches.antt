@@ -22,7 +22,7 @@ PointValue = (ℤ × ℤ) × (ℤ × ℤ)
 abbrev pub HalfValue : Type 0
 HalfValue = ℤ × ℤ × ℤ
 
--- a direction, its certificate, and the point and the half-plane where the reach isn't without end
+-- a direction, its certificate, and the point and the half-plane unless the reach is without end
 pub record ReachValue : Type 0 where
   pub m : ℤ
   pub n : ℤ
@@ -108,7 +108,7 @@ pub record BoundsReach (s : Surveyed) (i j : ℕ) (m n : ℤ) (point : PointValu
 abbrev pub CarriesAllAlong : Surveyed → (i j : ℕ) → ℤ → ℤ → Type 0
 CarriesAllAlong s i j m n = (w D : ℤ) → pos 0 ≼ w → pos 0 ≺ D → CarriesPair s i j (w *ℤ m) (w *ℤ n) D
 
--- what a point and a half-plane say; where there is neither, every multiple is carried
+-- what a point and a half-plane say; if there is neither, every multiple is carried
 abbrev pub TellsCarried : Surveyed → (i j : ℕ) → ℤ → ℤ → Option PointValue → Option HalfValue → Type 0
 TellsCarried s i j m n (Some point) (Some half) = BoundsReach s i j m n point half
 TellsCarried s i j m n None None = CarriesAllAlong s i j m n
@@ -129,8 +129,8 @@ PairsMix s i j = (a b D a' b' D' p q : ℤ) → pos 0 ≼ p → pos 0 ≼ q → 
     CarriesPair s i j a b D → CarriesPair s i j a' b' D' →
     CarriesPair s i j (p *ℤ a +ℤ q *ℤ a') (p *ℤ b +ℤ q *ℤ b') (p *ℤ D +ℤ q *ℤ D')
 
--- a reach for each of these directions, in their order, each with a true certificate; both loads may be nothing; and
--- each reach tells what is carried. What the points span is carried, since mixtures are
+-- a reach for each of these directions, in their order, each with a true certificate; both multiples may be 0; and each
+-- reach says what is carried. What the points span is carried, since mixtures are
 pub record ArePoints (s : Surveyed) (i j : ℕ) (ds : List (ℤ × ℤ)) (rs : List ReachValue) : Type 0 where
   pub directions : map direction_of_reach rs ≡ ds
   pub each : AllByRecursion (IsReach s i j) rs

@@ -90,7 +90,7 @@ const DIRECTED: Files = &[
     ("nowhere", &["dir 0 0\n"]),
 ];
 
-/// What the program answers where no stream fails.
+/// What the program answers if no stream fails.
 #[derive(Clone, Copy)]
 enum Answer {
     /// This status, and this text on standard output.
@@ -286,7 +286,7 @@ struct Told {
     calls: (u64, u64),
 }
 
-/// What is told of an answer where no stream fails.
+/// What must be seen of an answer if no stream fails.
 fn told_of(answer: &Answer) -> Told {
     let (status, front, is_whole, err, calls) = match *answer {
         Answer::Says(status, text) => (status, text, true, "", (1, 0)),
@@ -431,7 +431,7 @@ fn is_told(status: u8, out: &MemorySink, err: &MemorySink, told: &Told) -> bool 
         && (out.calls(), err.calls()) == told.calls
 }
 
-/// Whether the program tells this over the shelf and this output, with an error stream that fails so.
+/// Whether the program answers so over the shelf and this output, with an error stream that fails so.
 fn tells_on(
     alloc: Global,
     given: Given,
@@ -449,7 +449,7 @@ fn tells_on(
     }
 }
 
-/// Whether the program, given this, tells that over the shelf, with streams that fail so.
+/// Whether the program, given this, answers so over the shelf, with streams that fail so.
 fn tells(
     alloc: Global,
     given: Given,
@@ -547,7 +547,7 @@ fn devices_that_fail_are_told_apart(rt: HostRuntime) {
     assert!(rt; delivered(rt.alloc(), DELIVERIES) == 4);
 }
 
-/// Whether words of which one can't be read, and words for which memory was wanting, are refused so.
+/// Whether words of which one can't be read, and words for which there was no memory, are refused so.
 fn are_refused(alloc: Global) -> [bool; 2] {
     let mut shelf = MemoryShelf::new(Vec::new(alloc), Vec::new(alloc));
     let unreadable = told_of(&Answer::Refuses(2, "words\n"));
@@ -570,7 +570,7 @@ fn words_are_taken_as_the_runtime_gives_them(rt: HostRuntime) {
     assert!(rt; are_refused(rt.alloc()) == [true; 2]);
 }
 
-/// Whether the top call tells this over the shelf and this output.
+/// Whether the top call answers so over the shelf and this output.
 fn runs_on(
     alloc: Global,
     words: &[String],

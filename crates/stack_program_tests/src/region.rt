@@ -76,7 +76,7 @@ fn refusal_and_pairs(alloc: Global) -> Option<(Option<RegionError>, Pairs)> {
     Some((refusal(alloc, &s), pairs))
 }
 
-/// A budget is spent at the first direction, and a pair is refused at its first number in the way.
+/// A budget is spent at the first direction, and a pair is refused at its first number that names no load.
 #[test]
 fn budgets_and_pairs_are_refused_at_the_first_fault(rt: HostRuntime) {
     let spent = RegionError::Spent { direction: 0 };
@@ -135,7 +135,7 @@ fn a_directed_survey_has_two_live_loads_and_no_sway(rt: HostRuntime) {
     assert!(rt; towards(rt.alloc()) == Some(wanted));
 }
 
-/// The line that is told as faulty.
+/// The line that is named as faulty.
 fn line(alloc: Global, text: &[u8]) -> Option<usize> {
     match read_directions(alloc, text) {
         Err(DirectionsError::Line { number }) => Some(number),

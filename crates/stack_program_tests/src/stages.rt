@@ -15,7 +15,7 @@ fn begins(text: Result<Vec<u8>, AllocError>, lines: &[u8]) -> (bool, bool) {
     }
 }
 
-/// Whether the stages of the order that a text tells are written so.
+/// Whether the stages of the order that a text gives are written so.
 fn told(
     alloc: Global,
     s: &Survey,
@@ -52,7 +52,7 @@ fn stages_of_four(alloc: Global) -> Option<Told> {
     Some(told_of_three(alloc, &s))
 }
 
-/// From below all stages stand, a block in the air falls, and a spent budget tells its stage.
+/// From below all stages stand, a block in the air falls, and a spent budget names its stage.
 #[test]
 fn stages_stand_from_below_and_a_block_in_the_air_falls(rt: HostRuntime) {
     let wanted = [

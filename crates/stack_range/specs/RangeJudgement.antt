@@ -1,5 +1,5 @@
 -- The judgement of a range as one value: the range, the first number that is too wide with its side, or that the budget
--- is spent on a side. That a live load is listed is asked before.
+-- is spent on a side. Whether a live load is listed is asked before.
 use Rattle.std.specs.Prelude.{◌≡◌, ℕ, Result, Ok, Err, ⊤}
 use Rattle.stack_contact.specs.Surveyed.{Surveyed}
 use Rattle.stack_certificate.specs.Certificate.{stands, collapses, greatest, unbounded}
@@ -15,7 +15,7 @@ use Rattle.stack_range.specs.Reversed.{reversed_survey}
 use Rattle.stack_range.specs.CarriedFactors.{EndValue, at, unlimited, range_end_certificate}
 use Rattle.stack_range.specs.Ranged.{RangeValue, collapsing, between, range_view, side_judgement, IsReached}
 
--- the range is told, a number of a side is too wide, or the budget is spent on a side
+-- the range is found, a number of a side is too wide, or the budget is spent on a side
 pub data RangeJudgement : Type 0 where
   told : RangeValue → RangeJudgement
   wide_on : Side → JudgePlace → RangeJudgement
@@ -23,8 +23,8 @@ pub data RangeJudgement : Type 0 where
   -- none of these, which never comes
   no_range : RangeJudgement
 
--- the range by the judgement of the least side, with the other end. No other certificate comes there: the dead loads
--- stand; and no end is left unjudged
+-- the range by the judgement of the least side, with the other end. There is no other certificate there, since the dead
+-- loads stand; and no end is left unjudged
 abbrev pub by_least : EndValue → Judgement → RangeJudgement
 by_least high (certified (greatest f y)) = told (between (at f y) high)
 by_least high (certified (unbounded base ray)) = told (between (unlimited base ray) high)
@@ -34,8 +34,8 @@ by_least high (too_wide p) = wide_on Least p
 by_least high spent = spent_on Least
 by_least high unjudged = no_range
 
--- the range by the judgements of both sides, the greatest first. `stands` never comes of live loads, and no end is left
--- unjudged
+-- the range by the judgements of both sides, the greatest first. `stands` never answers a question about live loads,
+-- and no end is left unjudged
 abbrev pub by_sides : Judgement → Judgement → RangeJudgement
 by_sides (certified (greatest f y)) least = by_least (at f y) least
 by_sides (certified (unbounded base ray)) least = by_least (unlimited base ray) least
@@ -45,7 +45,7 @@ by_sides (too_wide p) least = wide_on Greatest p
 by_sides spent least = spent_on Greatest
 by_sides unjudged least = no_range
 
--- what comes of a survey within a budget of pivots a side, by the written runs of both sides
+-- the judgement of a survey's range within a budget of pivots a side, by the written runs of both sides
 abbrev pub range_judgement : Surveyed → (budget : ℕ) → RangeJudgement
 range_judgement v budget = by_sides (judgement Live v budget) (judgement Live (reversed_survey v) budget)
 

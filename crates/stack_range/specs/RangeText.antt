@@ -49,7 +49,7 @@ pub record AreEnds (low high : EndValue) : Type 0 where
   pub least : IsPrintable low
   pub greatest : IsPrintable high
 
--- a range can be printed: every range that is told can
+-- a range can be printed, as each that is found can
 abbrev pub CanPrintRange : RangeValue → Type 0
 CanPrintRange (collapsing y) = CertificateFits (collapses y)
 CanPrintRange (between low high) = AreEnds low high

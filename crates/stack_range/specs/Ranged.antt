@@ -42,17 +42,17 @@ abbrev pub side_survey : Side → Surveyed → Surveyed
 side_survey sides.Greatest v = v
 side_survey sides.Least v = reversed_survey v
 
--- what comes of a side, by its written run
+-- the judgement of a side, by its written run
 abbrev pub side_judgement : Side → Surveyed → (budget : ℕ) → Judgement
 side_judgement side v budget = judgement Live (side_survey side v) budget
 
--- the greatest side is judged and is no collapse, as is wanted for the least one
+-- the greatest side is judged and is no collapse, as the least one needs
 abbrev pub IsReached : Side → Surveyed → (budget : ℕ) → Type 0
 IsReached sides.Greatest v budget = ⊤
 IsReached sides.Least v budget = (e : EndValue)
     × (side_judgement sides.Greatest v budget ≡ certified (range_end_certificate e))
 
--- what is answered: exactly this, but that `Memory` may come at any time
+-- what is answered: exactly this, except that `Memory` may come at any time
 abbrev pub AnswersBySides : Result Range RangeError → Surveyed → (budget : ℕ) → Type 0
 AnswersBySides (Ok (ranges.Collapses y)) v budget = (¬ (LacksLive Live v))
     × (side_judgement sides.Greatest v budget ≡ certified (collapses (motion_view y)))
@@ -97,7 +97,7 @@ JudgesSide (Err (errors.Spent other)) side v budget = (other ≡ side) × (¬ (L
 JudgesSide (Err errors.NoLive) side v budget = LacksLive Live v
 JudgesSide (Err errors.Memory) side v budget = ⊤
 
--- why the range isn't told where a side isn't judged
+-- why there is no range if a side isn't judged
 abbrev pub range_refusal : JudgeError → Side → RangeError
 range_refusal (judge_errors.TooWide p) side = errors.TooWide side p
 range_refusal (judge_errors.Spent n) side = errors.Spent side

@@ -38,7 +38,7 @@ fn side_of(certificate: Certificate) -> OneSide
     }
 }
 
-/// Why the range isn't told where a side isn't judged.
+/// Why there is no range if a side isn't judged.
 fn refused(error: JudgeError, side: Side) -> RangeError
     ensures { result ≡ range_refusal error side }
 {
@@ -88,9 +88,9 @@ fn by_sides(alloc: Global, s: &Survey, budget: u32) -> Result<Range, RangeError>
 /// of its side, or a collapse of the dead loads. All numbers fit 128 bits. Each side is judged within the budget of
 /// pivots; the least one by the survey of the reversed model.
 ///
-/// Refused are, in this order: a model without a live load; the greatest side, then the least, where a number of its
-/// run or of what is made of its end is more than 2^127 - 1 in size, or a pivot is due when the budget's are done.
-/// Memory may run out at any time. After Livesley (1978).
+/// Refused are, in this order: a model without a live load; the greatest side, then the least, if a number of its run
+/// or of what is made of its end is more than 2^127 - 1 in size, or a pivot is due when the budget's are done. Memory
+/// may run out at any time. After Livesley (1978).
 pub fn range(alloc: Global, s: &Survey, budget: u32) -> Result<Range, RangeError>
     requires { budget ≢ 0 }
     ensures by_sides { AnswersBySides result s.now budget }

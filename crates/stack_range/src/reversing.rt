@@ -58,7 +58,7 @@ fn reversed_model(alloc: Global, model: &Model) -> Result<Model, AllocError>
     model.with_loads(alloc, loads.as_slice(), reversed_sway(model.sway()))
 }
 
-/// The survey of the reversed model, whose bearings and touches are those of `s`. `AllocError` where memory ran out.
+/// The survey of the reversed model, whose bearings and touches are those of `s`. `AllocError` if memory ran out.
 pub fn other_side(alloc: Global, s: &Survey) -> Result<Survey, AllocError>
     ensures { IfOk result (λ r. r ≡ reversed_survey s.now) }
 {

@@ -91,8 +91,8 @@ fn ends(alloc: Global, least: End, greatest: End) -> Result<Vec<u8>, AllocError>
 }
 
 /// The text of a range: the line `range LEAST GREATEST`, each a factor in lowest terms or `unlimited`; the text of the
-/// greatest side's certificate, the line `reversed`, and that of the least side's. Of a collapse its text alone.
-/// `AllocError` where memory ran out.
+/// greatest side's certificate, the line `reversed`, and that of the least side's. For a collapse, its text alone.
+/// `AllocError` if memory ran out.
 pub fn write_range(alloc: Global, range: Range) -> Result<Vec<u8>, AllocError>
     requires { CanPrintRange (range_view range) }
     ensures { IfOk result (λ t. t.items ≡ range_text (range_view range)) }

@@ -1,4 +1,4 @@
-//! The range of factors, and why it isn't told.
+//! The range of factors, and why there is none.
 
 ghost use Rattle.std.specs.Prelude.{◌≡◌};
 ghost use Rattle.stack_range.specs.declared.types.RangeError.TheVariants as range_error;
@@ -22,7 +22,7 @@ pub enum End {
     Unlimited(Forces, Forces),
 }
 
-/// Which factors are carried: none where the dead loads fall, or those between both ends. The least factor is minus the
+/// Which factors are carried: none if the dead loads fall, or those between both ends. The least factor is minus the
 /// one of its end.
 #[derive(Debug, PartialEq, Eq, Drop)]
 pub enum Range {
@@ -30,7 +30,7 @@ pub enum Range {
     Between { least: End, greatest: End },
 }
 
-/// Why the range isn't told: of both sides the first that is refused. The least side is judged after the greatest.
+/// Why there is no range: the first side that is refused. The least side is judged after the greatest.
 #[derive(Clone, Copy, Debug, PartialEq, Eq)]
 pub enum RangeError {
     /// The first number that is more than 2^127 - 1 in size, in the run of this side or in what is made of its end.

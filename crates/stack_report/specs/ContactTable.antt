@@ -1,5 +1,5 @@
 -- The table of contacts as text: the number of bearings, a line for each, the number of touches, a line for each.
--- Bodies are told by their names, bearings and touches by their numbers from 1, in the order of the survey.
+-- Bodies go by their names, bearings and touches by their numbers from 1, in the order of the survey.
 use Rattle.std.specs.Prelude.{ℕ, ◌+◌, ℤ, List, [], ◌∷◌, ◌++◌, length, codes, decimal}
 use Rattle.std.specs.Fmt.{signed_decimal}
 use Rattle.stack_polygon.specs.declared.point.Point.{Point}
@@ -52,7 +52,7 @@ abbrev pub lines_from : {A : Type 0} → (ℕ → A → List ℕ) → ℕ → Li
 lines_from line k [] = []
 lines_from line k (z ∷ zs) = line k z ++ lines_from line (k + 1) zs
 
--- a line that tells how many there are
+-- a line that says how many there are
 abbrev pub count_line : List ℕ → ℕ → List ℕ
 count_line word n = word ++ codes " " ++ decimal n ++ 10 ∷ []
 

@@ -24,11 +24,11 @@ y_fits t a b = fits (a *ℤ t.tx) && (fits (b *ℤ t.ty) && fits (a *ℤ t.tx +�
 abbrev pub force_fits : Bearing → Push → Bool
 force_fits z f = x_fits z.frame f.a.value f.b.value && y_fits z.frame f.a.value f.b.value
 
--- the index i, where one of the six numbers of a force is too wide
+-- the index i, if one of the six numbers of a force is too wide
 abbrev pub one_spot : (i : ℕ) → Bearing → Push → Option ℕ
 one_spot i z f = only_if (not (force_fits z f)) i
 
--- the index of bearing k of a list whose first one has the index i, where a number of its force is too wide
+-- the index of bearing k of a list whose first one has the index i, if a number of its force is too wide
 abbrev pub force_spot : (i : ℕ) → List Bearing → List (ℤ × ℤ) → (k : ℕ) → Option ℕ
 force_spot i bs parts k = one_spot (i + k) (get_or bs k no_bearing) (push_at parts k)
 
@@ -37,7 +37,7 @@ abbrev pub list_spot : (i : ℕ) → (over : ℤ) → List Bearing → List (ℤ
 list_spot i over bs parts = or_else (only_if (not (fits (pos 6 *ℤ over))) i)
     (first (length bs) (force_spot (i + 1) bs parts))
 
--- the first index of a certificate that is too wide, where there is one
+-- the first index of a certificate that is too wide, if there is one
 abbrev pub wide_index : Surveyed → CertificateValue → Option ℕ
 wide_index s (stands f) = list_spot 0 f.scale s.bearings f.parts
 wide_index s (collapses y) = None

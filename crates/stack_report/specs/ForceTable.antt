@@ -1,7 +1,7 @@
--- The table of the forces and the moves of a certificate as text: the line of its form; of its forces the factor, and
--- for each bearing the force on its later body; of a motion the move of each free block; of further forces the line
--- `ray`, and for each bearing the force. Forces are parts in sixths divided by the scale, and by the factor where they
--- are further ones. Fractions are in lowest terms, with a positive denominator.
+-- The table of the forces and the moves of a certificate as text: the line of its form; for its forces the factor, and
+-- for each bearing the force on its later body; for a motion the move of each free block; for further forces the line
+-- `ray`, and for each bearing the force. Forces are parts in sixths divided by the scale, and by the factor if they are
+-- further ones. Fractions are in lowest terms, with a positive denominator.
 use Rattle.std.specs.Prelude.{ℕ, ◌+◌, ℤ, pos, ◌*ℤ◌, List, [], ◌∷◌, ◌++◌, get_or, codes, decimal}
 use Rattle.std.specs.Fmt.{signed_decimal}
 use Rattle.stack_algebra.proofs.Over.{over}

@@ -1,6 +1,6 @@
--- The summary of the judgement of a wall: its number; how many free blocks, bearings and touches its survey has;
--- the form of the certificate; the factor, where that is the greatest; and whether no number of the
--- table and of the run is too wide for 64 bits.
+-- The summary of the judgement of a wall: its number; how many free blocks, bearings and touches its survey has; the
+-- form of the certificate; the factor, if that is the greatest; and whether no number of the table and of the run is
+-- too wide for 64 bits.
 use Rattle.std.specs.Prelude.{ℕ, Bool, true, false, List, [], ◌∷◌, ◌++◌, length, codes}
 use Rattle.stack_contact.specs.Surveyed.{Surveyed}
 use Rattle.stack_contact.specs.FreeBlocks.{frees_of}
@@ -22,7 +22,7 @@ greatest_line (collapses y) = []
 greatest_line (greatest f y) = factor_line f
 greatest_line (unbounded f r) = []
 
--- the line that tells whether no number is too wide for 64 bits
+-- the line that says whether no number is too wide for 64 bits
 abbrev pub narrow_line : Bool → List ℕ
 narrow_line true = codes "narrow yes\n"
 narrow_line false = codes "narrow no\n"
@@ -33,7 +33,7 @@ counts_text number v =
     count_line (codes "sample") number ++ (count_line (codes "blocks") (length (frees_of v.structure.bodies))
     ++ (count_line (codes "bearings") (length v.bearings) ++ count_line (codes "touches") (length v.touches)))
 
--- the line that tells the form
+-- the line of the form
 abbrev pub verdict_line : CertificateValue → List ℕ
 verdict_line c = codes "verdict " ++ form_word c ++ 10 ∷ []
 

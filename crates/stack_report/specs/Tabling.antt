@@ -15,13 +15,13 @@ use Rattle.stack_equilibrium.specs.declared.force.Force.{Force}
 use Rattle.stack_report.specs.declared.force_lines.ForceLine.{ForceLine}
 use Rattle.stack_report.specs.ForceTable.{lowest_ratio, forces_text}
 
--- exactly this text where no number is too wide, or the index of the first that is. `Memory` may come at any time
+-- exactly this text if no number is too wide, or the index of the first that is. `Memory` may come at any time
 abbrev pub Tables : Result (Vec ℕ Global) ReportError → Surveyed → CertificateValue → Type 0
 Tables (Ok v) s c = (wide_index s c ≡ None) × (v.items ≡ forces_text s c)
 Tables (Err (TooWide i)) s c = wide_index s c ≡ Some i
 Tables (Err Memory) s c = ⊤
 
--- exactly these further lines behind a text where no number of them is too wide, or the index of the first that is
+-- exactly these further lines behind a text if no number of them is too wide, or the index of the first that is
 abbrev pub Adds : Result (String Global) ReportError → (text : List ℕ) → (wide : Option ℕ) → (more : List ℕ)
     → Type 0
 Adds (Ok t) text wide more = (wide ≡ None) × (string_bytes t ≡ text ++ more)

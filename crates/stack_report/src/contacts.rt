@@ -89,10 +89,10 @@ fn touches_table(alloc: Global, s: &Survey) -> Result<String, AllocError>
     with_touches(head, s.model(), s.touches())
 }
 
-/// The contacts of a survey as text: the line `bearings K`; for each bearing, from 1, the line
-/// `bearing NUMBER FIRST SECOND X Y TX TY P Q`, with the names of its two bodies, its point, its tangent and its
-/// coefficient of friction, P over Q; the line `touches T`; for each touch, from 1, the line
-/// `touch NUMBER FIRST SECOND X Y`. Both are in the order of the survey. `AllocError` where memory ran out.
+/// The contacts of a survey as text: the line `bearings K`; for each bearing, from 1, the line `bearing NUMBER FIRST
+/// SECOND X Y TX TY P Q`, with the names of its two bodies, its point, its tangent and its coefficient of friction, P
+/// over Q; the line `touches T`; for each touch, from 1, the line `touch NUMBER FIRST SECOND X Y`. Both are in the
+/// order of the survey. `AllocError` if memory ran out.
 #[tactic(auto, unfolding(crate::specs::ContactTable::contacts_text))]
 pub fn contact_table(alloc: Global, s: &Survey) -> Result<Vec<u8>, AllocError>
     ensures { IfOk result (λ v. v.items ≡ contacts_text s.now) }

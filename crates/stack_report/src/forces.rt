@@ -205,10 +205,10 @@ fn lines(alloc: Global, s: &Survey, c: &Certificate) -> Result<String, ReportErr
 /// again the line of each bearing. Fractions are in lowest terms, with a positive denominator. Forces are in units of
 /// force: a part over six times the scale, and over six times the factor behind the line `ray`.
 ///
-/// `TooWide` exactly where a number is more than 2^127 - 1 in size, with the index of the first one. Index 0 is six
-/// times the scale. Index k is bearing number k, from 1, with the parts a and b and the tangent (tx, ty): b*tx,
-/// a*ty, their difference, a*tx, b*ty, their sum. With K bearings, index K + 1 is six times the factor of further
-/// forces, and index K + 1 + k is bearing number k again. `Memory` where memory ran out. After Livesley (1978).
+/// `TooWide` exactly if a number is more than 2^127 - 1 in size, with the index of the first one. Index 0 is six times
+/// the scale. Index k is bearing number k, from 1, with the parts a and b and the tangent (tx, ty): b*tx, a*ty, their
+/// difference, a*tx, b*ty, their sum. With K bearings, index K + 1 is six times the factor of further forces, and index
+/// K + 1 + k is bearing number k again. `Memory` if memory ran out. After Livesley (1978).
 pub fn force_table(alloc: Global, s: &Survey, c: &Certificate) -> Result<Vec<u8>, ReportError>
     requires { written_check s.now (certificate_view c.now) ≡ Check.Accepted }
     ensures { Tables result s.now (certificate_view c.now) }

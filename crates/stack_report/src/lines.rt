@@ -19,7 +19,7 @@ pub fn number(index: usize) -> u128
     index as u128 + 1
 }
 
-/// The name of body `i`; empty where there is none.
+/// The name of body `i`; empty if there is none.
 pub fn name(model: &Model, i: usize) -> &str
     ensures { result.now ≡ name_of (model_view model.now) i }
 {

@@ -96,9 +96,9 @@ fn lines(
 }
 
 /// The summary of the judgement of wall `number`, as text: the lines `sample NUMBER`, `blocks COUNT` of the free
-/// blocks, `bearings COUNT`, `touches COUNT`, `verdict FORM` with the form of the certificate, which the check
-/// accepts; `factor N/D` where that is the greatest, in lowest terms; and `narrow yes` or `narrow no`, as it is
-/// told. `AllocError` where memory ran out.
+/// blocks, `bearings COUNT`, `touches COUNT`, `verdict FORM` with the form of the certificate, which the check accepts;
+/// `factor N/D` if that is the greatest, in lowest terms; and `narrow yes` or `narrow no`, as the caller says.
+/// `AllocError` if memory ran out.
 pub fn sample_summary(
     alloc: Global,
     number: u32,

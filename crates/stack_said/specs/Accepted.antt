@@ -31,7 +31,7 @@ pub record HoldTrueCertificate (bytes text : List ℕ) : Type 0 where
   pub is_true : IsTrueCertificate files.survey files.certificate
   pub shows : Shows files.survey files.certificate
 
--- The certificate isn't true of the model, and the line tells its first test that fails, with its part.
+-- The certificate isn't true of the model, and the line names its first test that fails, with its part.
 pub record HoldFalseCertificate (bytes text line : List ℕ) : Type 0 where
   pub files : ModelAndCertificate bytes text
   pub is_false : ¬ (IsTrueCertificate files.survey files.certificate)
@@ -40,13 +40,13 @@ pub record HoldFalseCertificate (bytes text line : List ℕ) : Type 0 where
   pub is_first : written_check files.survey files.certificate ≡ Rejected part reason
   pub is_line : line ≡ rejected_text files.survey.structure part reason
 
--- Where `check` of two files that are told ends with `accepted`, the certificate is true of the model.
+-- If `check` of two files that are told ends with `accepted`, the certificate is true of the model.
 abbrev pub AcceptedIsTrueOfFiles : Type 0
 AcceptedIsTrueOfFiles = (holds : Holds) (model name bytes text : List ℕ) (names : List (List ℕ))
     → holds model ≡ Some bytes → holds name ≡ Some text → Ends holds (check_work model name) names acceptance
     → HoldTrueCertificate bytes text
 
--- Where it ends with a rejection, the certificate isn't true of the model.
+-- If it ends with a rejection, the certificate isn't true of the model.
 abbrev pub RejectedIsFalseOfFiles : Type 0
 RejectedIsFalseOfFiles = (holds : Holds) (model name bytes text line : List ℕ) (names : List (List ℕ))
     → holds model ≡ Some bytes → holds name ≡ Some text

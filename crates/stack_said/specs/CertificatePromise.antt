@@ -1,5 +1,5 @@
--- What `check MODEL CERT` and `table MODEL CERT` promise, on the survey of their model, where the certificate's file
--- has these bytes.
+-- What `check MODEL CERT` and `table MODEL CERT` promise, on the survey of their model, if the certificate's file has
+-- these bytes.
 use Rattle.std.specs.Prelude.{◌≡◌, ℕ, ◌<◌, List, Option, Some, None, length, Result, Ok, Err}
 use Rattle.stack_contact.specs.Surveyed.{Surveyed}
 use Rattle.stack_certificate.specs.Certificate.{CertificateValue}
@@ -25,8 +25,8 @@ use Rattle.stack_work.specs.Tables.{tables_text}
 use Rattle.stack_said.specs.Promise.{IsShort, Promise}
 
 -- The certificate is true and accepted; it isn't, and this is its first test that fails; its file is too long; this
--- line is the first at which it ceases to be a certificate; a number of the check is too wide, or, of an accepted one,
--- of the table.
+-- line is the first with which no certificate can begin; a number of the check is too wide, or, of an accepted one, of
+-- the table.
 pub data CertificateCase : Type 0 where
   is_accepted : CertificateValue → CertificateCase
   is_rejected : CertificateValue → Part → Reason → CertificateCase

@@ -12,7 +12,7 @@ use Rattle.stack_lines.specs.Verdicts.{verdict_status}
 abbrev pub with_line_feed : List ℕ → List ℕ
 with_line_feed line = line ++ 10 ∷ []
 
--- The line of a refusal was written, where the error stream didn't fail; and a front of it, whatever that did.
+-- The line of a refusal was written unless the error stream failed, and in any case a front of it.
 pub record SaysLine (r : Refusal) (err : StreamSeen) : Type 0 where
   pub whole : ¬ (StreamFailed err) → Took err (with_line_feed (refusal_line r))
   pub kept : ℕ
@@ -34,8 +34,8 @@ pub record FailsToWrite (a : Answer) (status : ℕ) (out err : StreamSeen) : Typ
   pub is_written : Took out (take kept a.text.items)
   pub line : SaysLine output err
 
--- The line of the refusal takes memory. Those of words without a form, of an output that failed and of want of memory
--- are constants.
+-- The line of the refusal takes memory. Those of words without a form, of an output that failed and of memory that ran
+-- out are constants.
 abbrev pub TakesMemory : Refusal → Type 0
 TakesMemory words = ⊥
 TakesMemory output = ⊥

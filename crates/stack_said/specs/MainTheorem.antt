@@ -36,7 +36,7 @@ pub record WritesFront (form : Option Form) (shelf : ShelfSeen) (names : List (L
   pub kept : ℕ
   pub is_written : Took out (take kept text)
 
--- What is on the output where the run refuses so: nothing new, but for an output that failed.
+-- What is on the output if the run refuses so: nothing new, but for an output that failed.
 abbrev pub OutputAfter : Refusal → Option Form → ShelfSeen → List (List ℕ) → StreamSeen → Type 0
 OutputAfter output form shelf names out = WritesFront form shelf names out
 OutputAfter _ form shelf names out = TookNothing out
@@ -49,8 +49,8 @@ Cause output form shelf names out = StreamFailed out
 Cause (faulty memory) form shelf names out = ⊤
 Cause r form shelf names out = Way shelf.holds form names (Err r)
 
--- There is a refusal with this status and a cause, and on the error stream, where that didn't fail, exactly its line
--- was written.
+-- There is a refusal with this status and a cause, and unless the error stream failed, exactly its line was written
+-- there.
 pub record Refused (status : ℕ) (form : Option Form) (shelf : ShelfSeen) (names : List (List ℕ))
     (out err : StreamSeen) : Type 0 where
   pub refusal : Refusal
@@ -80,12 +80,12 @@ pub record RunMeets (status : ℕ) (form : Option Form) (shelf : ShelfSeen) (out
   pub answered : status < 2 → Answered status form shelf names out err
   -- any other is a refusal, with its cause and its line, and leaves the output as it was unless that failed
   pub refused : 2 ≤ status → Refused status form shelf names out err
-  -- where neither the shelf nor the output failed, a way through the work decides
+  -- if neither the shelf nor the output failed, a way through the work decides
   pub decided : NeitherFailed shelf out → (status ≡ 11) ⊎ ((end : Result Due Refusal)
       × Way shelf.holds form names end × IsGivenOut end status out err)
-  -- 2 comes only where the words have no form, and there 2 or 11, whatever the devices do
+  -- 2 comes only if the words have no form, and then 2 or 11, whatever the devices do
   pub without_form : form ≡ None → (status ≡ 2) ⊎ (status ≡ 11)
   pub only_without_form : status ≡ 2 → form ≡ None
-  -- 3 comes only where the shelf failed, and 10 only where the output did
+  -- 3 comes only if the shelf failed, and 10 only if the output did
   pub shelf_failed : status ≡ 3 → ShelfFailed shelf
   pub output_failed : status ≡ 10 → StreamFailed out

@@ -12,7 +12,7 @@ pub data PairCase : Type 0 where
   is_pair : (loads : LoadPair) → PairCase
   is_in_the_way : (number : ℕ) → PairCase
 
--- The status is 15 exactly where one is.
+-- The status is 15 exactly if a number names no such load.
 abbrev pub IsPairStatus : PairCase → ℕ → Type 0
 IsPairStatus (is_pair loads) status = status ≢ 15
 IsPairStatus (is_in_the_way number) status = status ≡ 15

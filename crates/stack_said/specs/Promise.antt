@@ -44,7 +44,7 @@ pub record GivesOut {On : Type 0} (p : Promise On) (v : On) (x : p.Case) (status
     pub is_due : p.IsDue v x due
     pub is_given : IsGivenOut (told_as due) status out err
 
--- A status that is caused neither by the words, nor by a device, nor by want of memory.
+-- A status that is caused neither by the words, nor by a device, nor by memory that ran out.
 pub record IsOfWork (status : ℕ) : Type 0 where
   pub not_words : status ≢ 2
   pub not_file : status ≢ 3

@@ -36,7 +36,7 @@ range_status (is_wide side p) = 7
 range_status (is_spent side) = 8
 
 module _ (budget : ℕ) where
-  -- When each comes: the live load is looked for first, then the greatest side is judged, and where that has an end the
+  -- When each comes: the live load is looked for first, then the greatest side is judged, and if that has an end the
   -- least one.
   abbrev pub RangeComes : Surveyed → RangeCase → Type 0
   RangeComes v (has_ends low high) = (¬ (LacksLive Live v))

@@ -1,5 +1,4 @@
--- What `yield MODEL I J DIRS [PIVOTS]` promises, on the survey of its model, where the directions' file has these
--- bytes.
+-- What `yield MODEL I J DIRS [PIVOTS]` promises, on the survey of its model, if the directions' file has these bytes.
 use Rattle.std.specs.Prelude.{◌≡◌, ℕ, ◌+◌, ◌<◌, ℤ, List, Result, Ok, Err, length}
 use Rattle.stack_contact.specs.Surveyed.{Surveyed}
 use Rattle.stack_certificate.specs.Certificate.{MotionValue, collapses}
@@ -44,7 +43,7 @@ module _ (i j : ℕ) (text : List ℕ) (budget : ℕ) where
   abbrev pub AreNamed : Surveyed → LoadPair → Type 0
   AreNamed v loads = pair_of v.structure i j ≡ Ok loads
 
-  -- They do, and a text that isn't too long tells these directions.
+  -- They do, and a text that isn't too long gives these directions.
   abbrev pub TellsDirections : Surveyed → LoadPair → List (ℤ × ℤ) → Type 0
   TellsDirections v loads ds = AreNamed v loads × IsShort text × (directions_of text ≡ Ok ds)
 

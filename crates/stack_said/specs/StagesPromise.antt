@@ -1,4 +1,4 @@
--- What `stages MODEL ORDER [PIVOTS]` promises, on the survey of its model, where the order's file has these bytes.
+-- What `stages MODEL ORDER [PIVOTS]` promises, on the survey of its model, if the order's file has these bytes.
 use Rattle.std.specs.Prelude.{◌≡◌, ℕ, suc, ◌<◌, List, Result, Ok, Err, length}
 use Rattle.stack_contact.specs.Surveyed.{Surveyed}
 use Rattle.stack_certificate.specs.Certificate.{ForcesValue, MotionValue, collapses}
@@ -35,7 +35,7 @@ stages_status (is_wide order k p) = 7
 stages_status (is_spent order k) = 8
 
 module _ (text : List ℕ) (budget : ℕ) where
-  -- The text isn't too long, and tells this order.
+  -- The text isn't too long, and gives this order.
   abbrev pub TellsOrder : Surveyed → List ℕ → Type 0
   TellsOrder v order = IsShort text × (told_order v.structure text ≡ Ok order)
 

@@ -23,8 +23,8 @@ pub fn goes_on_with_accepted_models()
         → IsAcceptedModel bytes v → Ends holds (surveyed_file name) (name ∷ []) (Ok v) }
 {}
 
-/// The work on words over files that are told has one end, unless memory is wanting or a device fails: one answer
-/// that is due, or one refusal.
+/// The work on words over files that are told has one end, unless memory runs out or a device fails: one answer that is
+/// due, or one refusal.
 pub fn words_have_one_end()
     ensures { WordsHaveOneEnd }
 {}
@@ -39,8 +39,8 @@ pub fn printed_is_accepted()
     short_text();
 }
 
-/// Over told files, what `check` accepts is a certificate that is true of the model, and what it rejects is one that
-/// isn't; and the two files hold one survey and one certificate at most.
+/// If the files are told, what `check` accepts is a certificate that is true of the model, and what it rejects is one
+/// that isn't; and the two files hold at most one survey and one certificate.
 pub fn accepted_is_true_of_files()
     ensures accepted { AcceptedIsTrueOfFiles }
     ensures rejected { RejectedIsFalseOfFiles }

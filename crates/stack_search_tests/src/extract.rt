@@ -124,7 +124,7 @@ const HOVERING: Case = Case {
     motion: Some((1, -1, -1)),
 };
 
-/// The post, pressed down in the middle of its head: that is borne however great it is.
+/// The post, pressed down in the middle of its head: that is carried however great it is.
 const PRESSED: Case = Case {
     pieces: &[
         STONE,

@@ -78,7 +78,7 @@ const GREATEST: &[&str] = &[
     [1_000_000, -1_000_000], [1_000_000, 1_000_000], [-1_000_000, 1_000_000]]\n",
 ];
 
-/// The mark of a judgement, where its certificate has this form.
+/// The mark of a judgement, if its certificate has this form.
 fn mark(alloc: Global, s: &Survey, q: Question, wanted: &str) -> Option<bool> {
     match judge_marked(alloc, s, q, 20_000) {
         Ok((certificate, is_narrow)) => {
@@ -92,7 +92,7 @@ fn mark(alloc: Global, s: &Survey, q: Question, wanted: &str) -> Option<bool> {
     }
 }
 
-/// Whether a plain run at 64 bits ends: that is what the mark tells.
+/// Whether a plain run at 64 bits ends: that is what the mark says.
 fn ends_at_64_bits(alloc: Global, s: &Survey) -> bool {
     ended::<Frac<i64>>(alloc, s, Question::Live, 20_000).is_some()
 }

@@ -26,7 +26,7 @@ pub const POST: Numbers = Numbers {
     right: &[0, 48, 48],
 };
 
-/// The post with a push of one unit at its upper left corner, borne up to the factor 2.
+/// The post with a push of one unit at its upper left corner, carried up to the factor 2.
 pub const PUSHED_POST: Numbers = Numbers {
     contact: &[&[1, 1, 0], &[-1, 1, 0], &[1, 1, 2], &[-1, 1, 2]],
     factor: Some(&[6, 0, -24]),
@@ -91,7 +91,7 @@ fn columns(alloc: Global, contact: &[&[i128]]) -> Result<Vec<Column>, AllocError
     Ok(columns)
 }
 
-/// The problem of these numbers, where there is memory for it.
+/// The problem of these numbers, if there is memory for it.
 pub fn problem(alloc: Global, numbers: Numbers) -> Option<Problem> {
     let right = numbers.right.to_vec(alloc).ok()?;
     let contact = columns(alloc, numbers.contact).ok()?;

@@ -1,5 +1,5 @@
-//! Structures whose judgement must come of the revised run. Where that gives up too soon, the answer is the same, and
-//! only late.
+//! Structures whose judgement must come from the revised run. If that gives up too soon, the answer is the same, only
+//! later.
 
 use crate::drawings::surveyed;
 use crate::revised::kind_of;
@@ -53,7 +53,7 @@ const BUTTRESS: Pieces = &[
     "[[load]]\nblock = 'w8'\nkind = 'live'\nat = [0, 40]\nforce = [1, 0]\n",
 ];
 
-/// How the revised run of a question ends, where it does.
+/// How the revised run of a question ends, if it does.
 fn settled(alloc: Global, s: &Survey, q: Question) -> Option<EndKind> {
     match pose(alloc, s, q) {
         Ok(problem) => kind_of(run_revised(alloc, &problem, 20_000)).ok(),

@@ -9,7 +9,7 @@ use stack_table::{Problem, Step, Table};
 use std::alloc::Global;
 use std::test::*;
 
-/// What a run tells, without its table.
+/// What a run gives, without its table.
 #[derive(Clone, Copy, PartialEq)]
 enum Outcome {
     Infeasible,
@@ -65,8 +65,8 @@ fn last_rests_on<S: Exact>(
 /// The basic columns of a last table, and the numerators of their values.
 type Rest = (&'static [usize], &'static [i128]);
 
-/// A problem, how many pivots its run may make, what the run tells, and on what its last table rests, where that is
-/// looked at.
+/// A problem, how many pivots its run may make, what the run gives, and on what its last table rests, if that is looked
+/// at.
 #[derive(Clone, Copy)]
 struct Case {
     numbers: Numbers,

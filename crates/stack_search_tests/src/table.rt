@@ -22,7 +22,7 @@ fn table<S: Exact>(alloc: Global, numbers: Numbers) -> Result<Table<S>, BuildErr
     }
 }
 
-/// A pivot, where the place is one and its cell isn't 0.
+/// A pivot, if the place is one and its cell isn't 0.
 fn pivot<S: Exact>(t: &mut Table<S>, row: usize, column: usize) -> Option<Result<(), PivotWide>> {
     if row >= t.rows() {
         return None;
@@ -93,7 +93,7 @@ fn two_rows_hold<S: Exact>(alloc: Global) -> bool {
     }
 }
 
-/// A new objective row, where there is a factor.
+/// A new objective row, if there is a factor.
 fn take_factor_objective<S: Exact>(t: &mut Table<S>) -> bool {
     if t.has_factor() {
         t.set_factor_objective();

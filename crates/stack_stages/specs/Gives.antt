@@ -1,4 +1,4 @@
--- What judging stages answers, against what comes of them. `Memory` may come at any time.
+-- What judging stages answers, against their outcome. `Memory` may come at any time.
 use Rattle.std.specs.Prelude.{◌≡◌, ℕ, List, map, Result, Ok, Err, ⊤}
 use Rattle.stack_certificate.specs.Certificate.{CertificateValue, forces_view, motion_view, stands, collapses}
 use Rattle.stack_judge.specs.declared.types.JudgeError.{JudgeError}
@@ -37,7 +37,7 @@ GivesOutcome (Err (errors.TooWide stage p)) k j = (stage ≡ k) × (j ≡ too_wi
 GivesOutcome (Err (errors.Spent stage)) k j = (stage ≡ k) × (j ≡ spent)
 GivesOutcome (Err errors.Memory) k j = ⊤
 
--- exactly what comes of the stages
+-- exactly the outcome of the stages
 abbrev pub GivesStages : Result Stages StagesError → Staged → Type 0
 GivesStages (Ok r) x = x ≡ stages_view r
 GivesStages (Err (errors.TooWide stage p)) x = x ≡ too_wide_at stage p

@@ -1,4 +1,4 @@
--- What comes of the stages of an order, one after the other: all stand, one falls, or one isn't judged.
+-- The outcome of the stages of an order, one after the other: all stand, one falls, or one isn't judged.
 use Rattle.std.specs.Prelude.{◌≡◌, ℕ, zero, suc, ◌<◌, List, [], ◌∷◌, ◌++◌, length, Some, slice_get}
 use lib.IntN.{ℤ, pos}
 use Rattle.stack_algebra.specs.IntegerOrder.{◌≺◌}
@@ -22,7 +22,7 @@ pub data Staged : Type 0 where
   spent_at : (stage : ℕ) → Staged
   no_stages : Staged
 
--- what comes of a stage, behind those that stand by these forces. The dead loads alone are asked about, so a
+-- the outcome of a stage, behind those that stand by these forces. The dead loads alone are asked about, so a
 -- certificate is one of standing or of a collapse; and no end is left unjudged
 abbrev pub staged_by : (List ForcesValue → Staged) → (stage : ℕ) → List ForcesValue → Judgement → Staged
 staged_by more stage fs (certified (stands f)) = more (fs ++ f ∷ [])
@@ -33,14 +33,14 @@ staged_by more stage fs (too_wide p) = too_wide_at stage p
 staged_by more stage fs spent = spent_at stage
 staged_by more stage fs unjudged = no_stages
 
--- what comes of the stages behind stage k, which are so many
+-- the outcome of the stages behind stage k, which are so many
 abbrev pub staged_from : Surveyed → List ℕ → (budget : ℕ) → (left k : ℕ) → List ForcesValue → Staged
 staged_from v order budget zero k fs = all_stand fs
 staged_from v order budget (suc left) k fs =
     staged_by (staged_from v order budget left (suc k)) (suc k) fs
     (judgement Dead (surveyed_stage v order (suc k)) budget)
 
--- what comes of all stages of an order
+-- the outcome of all stages of an order
 abbrev pub staged : Surveyed → List ℕ → (budget : ℕ) → Staged
 staged v order budget = staged_from v order budget (length order) 0 []
 
@@ -88,8 +88,8 @@ pub record IsFirstStage (v : Surveyed) (order : List ℕ) (budget stage : ℕ) (
 abbrev pub AllAreJudged : Surveyed → List ℕ → (budget : ℕ) → Type 0
 AllAreJudged v order budget = StandBefore v order budget (length order)
 
--- what comes of stages, by their judgements: all are judged to stand; or of the first that isn't, that it collapses,
--- that a number of it is too wide or that its budget is spent
+-- the outcome of stages, by their judgements: all are judged to stand; or the first that isn't collapses, a number of
+-- it is too wide, or its budget is spent
 abbrev pub AreByStages : Surveyed → List ℕ → (budget : ℕ) → Staged → Type 0
 AreByStages v order budget (all_stand fs) = AllAreJudged v order budget
 AreByStages v order budget (falls fs m) = IsFirstStage v order budget (suc (length fs)) (certified (collapses m))
@@ -97,12 +97,12 @@ AreByStages v order budget (too_wide_at stage p) = IsFirstStage v order budget s
 AreByStages v order budget (spent_at stage) = IsFirstStage v order budget stage spent
 AreByStages v order budget no_stages = ⊥
 
--- the judgement of all stages says this of each, and none is left over
+-- the outcome of all stages agrees so with the judgement of each, and no case is left over
 abbrev pub StagesAreByStages : Type 0
 StagesAreByStages = (v : Surveyed) (order : List ℕ) (budget : ℕ) → AreByStages v order budget (staged v order budget)
 
--- the first stage of which a number is too wide, or whose budget is spent, is what comes of all; and where all are
--- judged to stand, so does all
+-- the first stage of which a number is too wide, or whose budget is spent, decides the outcome of all, and so does a
+-- first one that collapses; if all are judged to stand, all stand
 pub record FirstStagesDecide (v : Surveyed) (order : List ℕ) (budget : ℕ) : Type 0 where
   pub wide : (stage : ℕ) (p : JudgePlace) → IsFirstStage v order budget stage (too_wide p)
       → staged v order budget ≡ too_wide_at stage p

@@ -1,4 +1,4 @@
--- The text of what comes of stages: the line `stage K stands` for each that stands, counted from 1; then the line `all
+-- The text of the outcome of stages: the line `stage K stands` for each that stands, counted from 1; then the line `all
 -- stand`, or the line `stage K collapses` and the text of the certificate of that stage.
 use Rattle.std.specs.Prelude.{ℕ, zero, suc, List, [], ◌++◌, codes, decimal, length, ⊤}
 use Rattle.stack_certificate.specs.Certificate.{MotionValue, collapses}
@@ -18,11 +18,11 @@ abbrev pub stand_lines : ℕ → List ℕ
 stand_lines zero = []
 stand_lines (suc n) = stand_lines n ++ stands_line (suc n)
 
--- the text where the first n stages stand and the next collapses by a motion
+-- the text if the first n stages stand and the next collapses by a motion
 abbrev pub falls_text : ℕ → MotionValue → List ℕ
 falls_text n m = stand_lines n ++ collapses_line (suc n) ++ certificate_text (collapses m)
 
--- the whole text of what comes of stages; a stage that isn't judged has none
+-- the whole text of the outcome of stages; a stage that isn't judged has none
 abbrev pub stages_text : Staged → List ℕ
 stages_text (all_stand fs) = stand_lines (length fs) ++ codes "all stand\n"
 stages_text (falls fs m) = falls_text (length fs) m
@@ -30,7 +30,7 @@ stages_text (too_wide_at stage p) = []
 stages_text (spent_at stage) = []
 stages_text no_stages = []
 
--- what comes of stages can be printed: whatever is told can
+-- an outcome of stages can be printed, as each that is found can
 abbrev pub CanPrintStages : Staged → Type 0
 CanPrintStages (falls fs m) = CertificateFits (collapses m)
 CanPrintStages _ = ⊤

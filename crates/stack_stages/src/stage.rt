@@ -21,7 +21,7 @@ fn is_fixed_or_among(model: &Model, first: &[usize], i: usize) -> bool
     first.contains(&i)
 }
 
-/// Of each body whether it is fixed, or one of these.
+/// For each body whether it is fixed, or one of these.
 fn built(alloc: Global, model: &Model, first: &[usize]) -> Result<Vec<bool>, AllocError>
     ensures { IfOk result (λ v. AreFlags (length (model_view model.now).bodies)
         (is_fixed_or_among_of (model_view model.now) first.now) v.items) }
@@ -35,7 +35,7 @@ fn built(alloc: Global, model: &Model, first: &[usize]) -> Result<Vec<bool>, All
 
 /// The survey of stage `k` of an order, from `read_order`: of all fixed bodies and the first `k` blocks of the order,
 /// in the order of the model, with the loads on them, all materials, all joints and the sway. Its bearings and its
-/// touches are those of the whole whose bodies are both built. `AllocError` where memory ran out.
+/// touches are those of the whole whose bodies are both built. `AllocError` if memory ran out.
 pub fn stage_of(alloc: Global, s: &Survey, order: &[usize], k: usize) -> Result<Survey, AllocError>
     requires { k ≤ length order.now }
     ensures { IfOk result (λ r. r ≡ surveyed_stage s.now order.now k) }

@@ -1,4 +1,4 @@
-//! What comes of stages, as text.
+//! The outcome of stages, as text.
 
 ghost use Rattle.std.specs.Prelude.{◌≡◌, ◌++◌, IfOk, length, string_bytes};
 ghost use Rattle.stack_certificate.specs.Certificate.{motion_view, collapses};
@@ -32,7 +32,7 @@ fn stand_lines(alloc: Global, count: usize) -> Result<String, AllocError>
     Ok(text)
 }
 
-/// The text where so many stages stand and the next collapses.
+/// The text if so many stages stand and the next collapses.
 fn falls_text(alloc: Global, before: &[Forces], motion: Motion) -> Result<Vec<u8>, AllocError>
     requires { CertificateFits (collapses (motion_view motion)) }
     ensures { IfOk result (λ t. t.items ≡ text_of_falling (length before.now) (motion_view motion)) }
@@ -47,9 +47,9 @@ fn falls_text(alloc: Global, before: &[Forces], motion: Motion) -> Result<Vec<u8
     Ok(bytes)
 }
 
-/// The text of what comes of stages: the line `stage K stands` for each that stands, counted from 1; then the line
-/// `all stand`, or the line `stage K collapses` and the text of the certificate of that stage. `AllocError` where
-/// memory ran out.
+/// The text of the outcome of stages: the line `stage K stands` for each that stands, counted from 1; then the line
+/// `all stand`, or the line `stage K collapses` and the text of the certificate of that stage. `AllocError` if memory
+/// ran out.
 pub fn write_stages(alloc: Global, found: Stages) -> Result<Vec<u8>, AllocError>
     requires { CanPrintStages (stages_view found) }
     ensures { IfOk result (λ t. t.items ≡ stages_text (stages_view found)) }

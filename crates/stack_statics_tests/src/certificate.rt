@@ -33,7 +33,7 @@ fn form(certificate: &Certificate) -> Option<&'static str> {
     if is_known { Some(form) } else { None }
 }
 
-/// The form of the certificate that a text tells, and whether it is written as that text.
+/// The form of the certificate that a text spells, and whether it is written as that text.
 fn told(alloc: Global, text: &str) -> Option<(Option<&'static str>, bool)> {
     let Ok(read) = read_certificate(alloc, text.as_bytes()) else {
         return None;

@@ -26,7 +26,7 @@ const FALLING: &[&str] = &[
     "[[block]]\nname = 'post'\nmaterial = 'stone'\ncorners = [[0, 1], [2, 1], [2, 5], [0, 5]]\n",
 ];
 
-/// What the check says of the certificate that a text tells.
+/// What the check says of the certificate that a text spells.
 fn checked_over(alloc: Global, s: &Survey, text: &str) -> Option<Check> {
     match read_certificate(alloc, text.as_bytes()) {
         Ok(certificate) => Some(check(s, &certificate)),

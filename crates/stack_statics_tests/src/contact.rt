@@ -148,7 +148,7 @@ fn refusal(alloc: Global, pieces: &[&str]) -> Option<SurveyError> {
     survey(alloc, model_of(alloc, pieces)?).err()
 }
 
-/// Also where another pair lies further left.
+/// Also if another pair lies further left.
 #[test]
 fn the_first_pair_that_overlaps_is_named(rt: HostRuntime) {
     let alloc = rt.alloc();

@@ -50,7 +50,7 @@ fn is_without_b(part: &Model) -> bool {
     told(part) == Some((2, (1, 0), [1, 1, 3], "c", load))
 }
 
-/// The part with the bodies that are kept, where each body is kept or not.
+/// The part with the bodies that are kept, given for each body whether it is.
 fn kept(alloc: Global, whole: &Model, keeps: &[bool]) -> Option<Model> {
     if keeps.len() != whole.bodies() {
         return None;

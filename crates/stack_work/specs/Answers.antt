@@ -46,8 +46,8 @@ region_verdict (points rs) = Affirmed
 
 -- Exactly these bytes, with this verdict; the certificate of this question of this survey; a document that describes
 -- this structure and isn't too long to be read; the summary of the wall with this number, by its survey, its
--- certificate, and whether no number of the table and of the run is too wide for 64 bits; the range of this survey;
--- what comes of the stages of this order of it; the region of these two loads of it, from 0 among all loads, in these
+-- certificate, and whether no number of the table and of the run is too wide for 64 bits; the range of this survey; the
+-- outcome of the stages of this order of it; the region of these two loads of it, from 0 among all loads, in these
 -- directions.
 pub data Due : Type 0 where
   exactly : Verdict → List ℕ → Due

@@ -13,13 +13,13 @@ use Rattle.stack_work.specs.Judging.{wide_within}
 use Rattle.stack_work.specs.Work.{Work, gives, refuses, ◌>>=◌}
 use Rattle.stack_work.specs.Surveying.{read, surveyed_file}
 
--- A text tells an order, or is refused with its first faulty line.
+-- A text gives an order, or is refused with its first faulty line.
 abbrev pub order_step : Result (List ℕ) ℕ → Work (List ℕ)
 order_step (Ok order) = gives order
 order_step (Err number) = refuses (order_line number)
 
 -- That all stand and that one falls are both answers; a number that is too wide and a budget that is spent are refused.
--- The blocks of a stage are told by the stage's own numbers. The last case never comes.
+-- The blocks of a stage go by the stage's own numbers. The last case never comes.
 abbrev pub stages_step : (budget : ℕ) → Surveyed → List ℕ → Staged → Work Due
 stages_step budget v order (all_stand fs) = gives (stages_due v order (all_stand fs))
 stages_step budget v order (falls fs m) = gives (stages_due v order (falls fs m))
@@ -27,7 +27,7 @@ stages_step budget v order (too_wide_at k p) = refuses (wide_within (Stage k) (s
 stages_step budget v order (spent_at k) = refuses (over_budget budget)
 stages_step budget v order no_stages = refuses memory
 
--- An order's text, up to what comes of its stages.
+-- An order's text, up to the outcome of its stages.
 abbrev pub order_work : (budget : ℕ) → Surveyed → List ℕ → Work Due
 order_work budget survey text = do
   order ← order_step (told_order survey.structure text)

@@ -17,7 +17,7 @@ use Rattle.stack_lines.specs.CheckText.{place_of, accepted_text, rejected_text}
 use Rattle.stack_work.specs.Work.{Work, gives, refuses, ◌>>=◌}
 use Rattle.stack_work.specs.Surveying.{read, surveyed_file}
 
--- A text is a certificate, or is refused with the line at which it ceases to be one.
+-- A text is a certificate, or is refused with the first line with which no certificate can begin.
 abbrev pub certificate_step : Result CertificateValue ℕ → Work CertificateValue
 certificate_step (Ok certificate) = gives certificate
 certificate_step (Err number) = refuses (certificate_line number)
@@ -32,7 +32,7 @@ check_step s (TooWide place) = refuses (wide_check Whole place.part (place_of s 
 abbrev pub Accepting : Type 0
 Accepting = Surveyed → CertificateValue → Work Due
 
--- The check of a certificate, and what is due of it where it is accepted.
+-- The check of a certificate, and what is due of it if it is accepted.
 abbrev pub certificate_due : Accepting → Surveyed → CertificateValue → Check → Work Due
 certificate_due due v c Accepted = due v c
 certificate_due due v c (Rejected part reason) = check_step v.structure (Rejected part reason)

@@ -25,7 +25,7 @@ abbrev pub lacks_live : Question → Structure → Bool
 lacks_live Dead s = false
 lacks_live Live s = not (lists_live s)
 
--- A number of one of a form's judgements that is too wide is told by where it is: in the run, in what is made of its
+-- A number of one of a form's judgements that is too wide is named by where it is: in the run, in what is made of its
 -- end, in the check.
 abbrev pub wide_within : Within → Structure → JudgePlace → Fault
 wide_within w s (places.Run p) = wide_run w p
@@ -44,7 +44,7 @@ judged_step q budget v (too_wide p) = refuses (wide_fault v.structure p)
 judged_step q budget v spent = refuses (over_budget budget)
 judged_step q budget v unjudged = refuses memory
 
--- Where live loads are asked about and none is listed, nothing is judged.
+-- If live loads are asked about and none is listed, nothing is judged.
 abbrev pub judged : Question → (budget : ℕ) → Surveyed → Work Due
 judged q budget v = if lacks_live q v.structure then refuses no_live else judged_step q budget v (judgement q v budget)
 

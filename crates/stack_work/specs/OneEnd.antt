@@ -1,4 +1,4 @@
--- When the work on words has one end only: where its files are told. A structure has one survey, so nothing is chosen
+-- When the work on words has one end only: if its files are told. A structure has one survey, so nothing is chosen
 -- freely.
 use Rattle.std.specs.Prelude.{◌≡◌, ℕ, List, [], ◌∷◌, Option, Some, Result, Ok, Err, ⊤}
 use Rattle.stack_lines.specs.Refusals.{Refusal, file, faulty, memory}
@@ -12,13 +12,13 @@ abbrev pub AreTold : Holds → List (List ℕ) → Type 0
 AreTold holds [] = ⊤
 AreTold holds (name ∷ names) = ((bytes : List ℕ) × (holds name ≡ Some bytes)) × AreTold holds names
 
--- The end tells neither of memory nor of a device.
+-- The end is neither about memory nor about a device.
 abbrev pub IsDefiniteRefusal : Refusal → Type 0
 IsDefiniteRefusal (file input) = ⊥
 IsDefiniteRefusal (faulty memory) = ⊥
 IsDefiniteRefusal _ = ⊤
 
--- A value is definite, and so is a refusal but for a file that isn't read or memory that is wanting.
+-- A value is definite, and so is a refusal but for a file that isn't read or memory that ran out.
 abbrev pub IsDefinite : {A : Type 0} → Result A Refusal → Type 0
 IsDefinite (Ok a) = ⊤
 IsDefinite (Err r) = IsDefiniteRefusal r

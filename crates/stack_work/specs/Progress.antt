@@ -16,7 +16,7 @@ use Rattle.stack_work.specs.Forms.{Form, work_of}
 use Rattle.stack_work.specs.Answers.{Due, IsAnswer}
 use Rattle.stack_work.specs.Work.{Work, Holds, Ends}
 
--- The names of the files that were asked for, where a shelf tells them.
+-- The names of the files that were asked for, if a shelf tells them.
 abbrev pub ToldNames : Type 0
 ToldNames = Option (List (List ℕ))
 
@@ -26,7 +26,7 @@ GrewBy None new names = ⊤
 GrewBy (Some old) None names = ⊥
 GrewBy (Some old) (Some new) names = new ≡ old ++ names
 
--- Exactly these files were asked for, in this order, where the shelf tells it.
+-- Exactly these files were asked for, in this order, if the shelf tells it.
 abbrev pub AskedFor : ShelfSeen → List (List ℕ) → Type 0
 AskedFor shelf names = GrewBy shelf.asked shelf.asked_after names
 
@@ -51,14 +51,14 @@ abbrev pub refuses_unread : {X : Type 0} → Result X CodeRefusal → Bool
 refuses_unread (Ok x) = false
 refuses_unread (Err r) = is_unread r
 
--- The shelf's count of faults goes up by one exactly where what was returned is the refusal of a file that isn't read.
--- So a read that failed is never passed over.
+-- The shelf's count of faults goes up by one exactly if what was returned is the refusal of a file that isn't read. So
+-- a read that failed is never passed over.
 abbrev pub CountsUnread : {X : Type 0} → Result X CodeRefusal → ShelfSeen → Type 0
 CountsUnread result shelf = shelf.faults_after ≡ count_after (refuses_unread result) shelf.faults
 
 -- A function that may read files does this work: it asked for these files, and what it returned is an end of the work
--- that asks for them. Where it refuses since a file isn't read, the shelf failed, and only there. It leaves what the
--- shelf holds as it was, and the shelf's count of faults didn't fall.
+-- that asks for them. The shelf failed exactly if it refuses since a file isn't read. It leaves what the shelf holds as
+-- it was, and the shelf's count of faults didn't fall.
 pub record Does {A X : Type 0} (R : X → A → Type 0) (w : Work A) (shelf : ShelfSeen)
     (result : Result X CodeRefusal) : Type 0 where
   pub names : List (List ℕ)
@@ -96,7 +96,7 @@ Way holds None names end = (names ≡ []) × (end ≡ Err words)
 Way holds (Some form) names end = Ends holds (work_of form) names end
 
 -- What was returned is an end of the work on words that asks for these files: the answer that is due, or the refusal.
--- Memory may be wanting on any way.
+-- Memory may run out on any way.
 abbrev pub ReturnsAnswer : Holds → Option Form → List (List ℕ) → Result Answer CodeRefusal → Type 0
 ReturnsAnswer holds form names (Ok a) = (due : Due) × AnswersDue a due × Way holds form names (Ok due)
 ReturnsAnswer holds form names (Err code.Memory) = (end : Result Due Refusal) × Way holds form names end

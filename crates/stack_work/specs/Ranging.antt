@@ -13,7 +13,7 @@ use Rattle.stack_work.specs.Judging.{lacks_live, wide_within}
 use Rattle.stack_work.specs.Work.{Work, gives, refuses, ◌>>=◌}
 use Rattle.stack_work.specs.Surveying.{surveyed_file}
 
--- The greatest side is told as `load` tells its judgement, the least side with that word.
+-- A number of the greatest side is named as `load` names its own, one of the least side with that word.
 abbrev pub within_of : Side → Within
 within_of Greatest = Whole
 within_of Least = LeastSide
@@ -25,7 +25,7 @@ range_step budget v (wide_on side p) = refuses (wide_within (within_of side) v.s
 range_step budget v (spent_on side) = refuses (over_budget budget)
 range_step budget v no_range = refuses memory
 
--- Where no live load is listed, nothing is judged.
+-- If no live load is listed, nothing is judged.
 abbrev pub range_told : (budget : ℕ) → Surveyed → Work Due
 range_told budget v = if lacks_live Live v.structure then refuses no_live
     else range_step budget v (range_judgement v budget)

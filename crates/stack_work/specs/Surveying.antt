@@ -20,7 +20,7 @@ greatest_file = 262144
 abbrev pub unless_long : Input → List ℕ → Work (List ℕ)
 unless_long input bytes = if nat_lt greatest_file (length bytes) then refuses (long input) else gives bytes
 
--- A file is asked for by its name, and refused where it is too long.
+-- A file is asked for by its name, and refused if it is too long.
 abbrev pub read : Input → List ℕ → Work (List ℕ)
 read input name = reads input name (unless_long input)
 
@@ -33,7 +33,7 @@ model_step (Err e) = refuses (from_read e)
 abbrev pub structure_names : Structure → List (List ℕ)
 structure_names s = map (λ b. b.name) s.bodies
 
--- The survey of a structure. Bodies that overlap are told by their names.
+-- The survey of a structure. Bodies that overlap go by their names.
 abbrev pub from_survey : Structure → SurveyError → Fault
 from_survey s (surveying.Overlap first second) = overlap (body_of s first).name (body_of s second).name
 from_survey s (surveying.TooManyBearings count) = many_bearings count

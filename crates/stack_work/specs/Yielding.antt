@@ -18,17 +18,17 @@ use Rattle.stack_work.specs.Judging.{wide_within}
 use Rattle.stack_work.specs.Work.{Work, gives, refuses, ◌>>=◌}
 use Rattle.stack_work.specs.Surveying.{read, surveyed_file}
 
--- Two numbers name two loads, or are refused with the one that is in the way.
+-- Two numbers name two loads, or are refused with the one at fault.
 abbrev pub loads_step : Result LoadPair ℕ → Work LoadPair
 loads_step (Ok loads) = gives loads
 loads_step (Err load) = refuses (no_pair load)
 
--- A text tells directions, or is refused with its first faulty line.
+-- A text gives directions, or is refused with its first faulty line.
 abbrev pub directions_step : Result (List (ℤ × ℤ)) ℕ → Work (List (ℤ × ℤ))
 directions_step (Ok ds) = gives ds
 directions_step (Err number) = refuses (directions_line number)
 
--- A number of a direction that is too wide is told within the direction: as that of any judgement, or by which number
+-- A number of a direction that is too wide is named within the direction: as that of any judgement, or by which number
 -- of the reach it is. The blocks are those of the model, whose bodies each direction keeps.
 abbrev pub wide_toward : (number : ℕ) → Structure → RegionPlace → Fault
 wide_toward number s (places.Judge p) = wide_within (Direction number) s p
@@ -36,7 +36,7 @@ wide_toward number s places.First = wide_reach (Direction number) First
 wide_toward number s places.Second = wide_reach (Direction number) Second
 wide_toward number s places.Point = wide_reach (Direction number) Point
 
--- A region is given out; a number that is too wide and a budget that is spent are refused. Directions are told by their
+-- A region is given out; a number that is too wide and a budget that is spent are refused. Directions go by their
 -- numbers from 1. The last case never comes.
 abbrev pub region_step : (budget : ℕ) → Surveyed → (i j : ℕ) → List (ℤ × ℤ) → Outcomes → Work Due
 region_step budget v i j ds (answered r) = gives (region_due v i j ds r)

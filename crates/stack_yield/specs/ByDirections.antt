@@ -1,5 +1,5 @@
--- What comes of directions, by the judgements of their directed surveys: a direction has a reach where its judgement is
--- a greatest factor of which no power or coordinate is too wide, or factors without end. And the first that has none.
+-- The outcome of directions, by the judgements of their directed surveys: a direction has a reach if its judgement is a
+-- greatest factor of which no power or coordinate is too wide, or factors without end. And the first that has none.
 use Rattle.std.specs.Prelude.{◌≡◌, ◌⊎◌, ℕ, ◌<◌, ℤ, pos, List, length, get_or, Some, None, Ok, Err}
 use Rattle.stack_contact.specs.Surveyed.{Surveyed}
 use Rattle.stack_certificate.specs.Certificate.{ForcesValue, MotionValue, collapses, greatest, unbounded}
@@ -54,7 +54,7 @@ module _ (s : Surveyed) (i j budget : ℕ) where
       × SecondIsMade y
       × (point_made d.0 d.1 f ≡ None)
 
-  -- what comes of a direction, by its judgement
+  -- the outcome of a direction, by its judgement
   abbrev pub IsOutcomeOf : ℤ × ℤ → Outcome → Type 0
   IsOutcomeOf d (reaches r) = HasReach d
   IsOutcomeOf d (falls y) = judgement_towards d ≡ certified (collapses y)
@@ -66,13 +66,13 @@ module _ (s : Surveyed) (i j budget : ℕ) where
   abbrev pub ReachBefore : List (ℤ × ℤ) → ℕ → Type 0
   ReachBefore ds n = (k : ℕ) → k < n → HasReach (get_or ds k no_direction)
 
-  -- direction number k, from 0, comes to this, and all before it have reaches: none is refused, none collapses
+  -- direction number k, from 0, has this outcome, and all before it have reaches: none is refused, none collapses
   pub record IsFirstDirection (ds : List (ℤ × ℤ)) (k : ℕ) (o : Outcome) : Type 0 where
     pub within : k < length ds
     pub earlier : ReachBefore ds k
     pub is : IsOutcomeOf (get_or ds k no_direction) o
 
-  -- what comes of all directions: each has a reach, or the first that has none collapses or is refused
+  -- the outcome of all directions: each has a reach, or the first that has none collapses or is refused
   abbrev pub AreByDirections : List (ℤ × ℤ) → Outcomes → Type 0
   AreByDirections ds (answered (points rs)) = ReachBefore ds (length ds)
   AreByDirections ds (answered (collapse y)) = (k : ℕ) × IsFirstDirection ds k (falls y)
@@ -80,12 +80,12 @@ module _ (s : Surveyed) (i j budget : ℕ) where
   AreByDirections ds (spends_at k) = IsFirstDirection ds k spends
   AreByDirections ds no_outcomes = ⊥
 
--- what comes of all directions is what comes of the first that has no reach, or that each has one; none is left over
+-- the outcome of all directions is that of the first one that has no reach, or that each has one; no case is left over
 abbrev pub OutcomesAreByDirections : Type 0
 OutcomesAreByDirections = (s : Surveyed) (i j budget : ℕ) (ds : List (ℤ × ℤ)) →
     AreByDirections s i j budget ds (outcomes s i j budget ds)
 
--- and each of these is what comes of all
+-- and each of these decides the outcome of all
 pub record FirstDirectionsDecide (s : Surveyed) (i j budget : ℕ) (ds : List (ℤ × ℤ)) : Type 0 where
   pub wide : (k : ℕ) (p : RegionPlace) → IsFirstDirection s i j budget ds k (passes p)
       → outcomes s i j budget ds ≡ passes_at k p

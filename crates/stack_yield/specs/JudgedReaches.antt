@@ -15,7 +15,7 @@ abbrev pub PointFits : Option PointValue → Type 0
 PointFits None = ⊤
 PointFits (Some p) = (IsFitting p.0.0 × IsFitting p.0.1) × (IsFitting p.1.0 × IsFitting p.1.1)
 
--- so are the numbers of a half-plane
+-- and so are the numbers of a half-plane
 abbrev pub HalfFits : Option HalfValue → Type 0
 HalfFits None = ⊤
 HalfFits (Some h) = IsFitting h.0 × IsFitting h.1 × IsFitting h.2
@@ -27,7 +27,8 @@ pub record ReachIsJudged (s : Surveyed) (i j : ℕ) (r : ReachValue) : Type 0 wh
   pub point_fits : PointFits r.point
   pub half_fits : HalfFits r.half
 
--- so is each of a region; a collapse is judged of the survey as it is, with all its live loads and its sway
+-- the certificate of each reach of a region is judged, and the numbers of its point and its half-plane fit; a collapse
+-- is judged for the survey as it is, with all its live loads and its sway
 abbrev pub RegionIsJudged : Surveyed → (i j : ℕ) → RegionValue → Type 0
 RegionIsJudged s i j (collapse y) = IsJudged Live s (collapses y)
 RegionIsJudged s i j (points rs) = AllByRecursion (ReachIsJudged s i j) rs

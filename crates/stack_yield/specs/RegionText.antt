@@ -28,7 +28,7 @@ direction_line r = codes "dir " ++ signed_decimal r.m ++ codes " " ++ signed_dec
 unfoldable pub half_text : HalfValue → List ℕ
 half_text h = signed_decimal h.0 ++ codes " " ++ signed_decimal h.1 ++ codes " " ++ signed_decimal h.2
 
--- the line of a half-plane, where there is one
+-- the line of a half-plane, if there is one
 abbrev pub half_line : Option HalfValue → List ℕ
 half_line None = []
 half_line (Some h) = codes "half " ++ half_text h ++ codes "\n"
@@ -51,7 +51,7 @@ abbrev pub region_text : RegionValue → List ℕ
 region_text (collapse y) = certificate_text (collapses y)
 region_text (points rs) = region_line (length rs) ++ reach_lines rs
 
--- a region can be printed: every region that is told can
+-- a region can be printed, as each that is found can
 abbrev pub CanPrintRegion : RegionValue → Type 0
 CanPrintRegion (collapse y) = CertificateFits (collapses y)
 CanPrintRegion (points rs) = ⊤

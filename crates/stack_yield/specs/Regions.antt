@@ -1,4 +1,4 @@
--- What the code answers of directions, against what is defined; want of memory is free.
+-- What the code answers of directions, against what is defined; memory may run out at any time.
 use Rattle.std.specs.Prelude.{◌≡◌, ℕ, ℤ, List, Result, Ok, Err, ⊤}
 use Rattle.stack_contact.specs.Surveyed.{Surveyed}
 use Rattle.stack_certificate.specs.Certificate.{motion_view, collapses}
@@ -55,7 +55,7 @@ RefusesFirstDirection (Err (TooWide k p)) s i j budget ds = IsFirstDirection s i
 RefusesFirstDirection (Err (Spent k)) s i j budget ds = IsFirstDirection s i j budget ds k spends
 RefusesFirstDirection (Err Memory) s i j budget ds = ⊤
 
--- why there is no region where direction number k has no reach
+-- why there is no region if direction number k has no reach
 abbrev pub region_refusal : DirectionStop → ℕ → RegionError
 region_refusal (stops.TooWide p) k = TooWide k p
 region_refusal stops.Spent k = Spent k

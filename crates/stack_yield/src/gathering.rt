@@ -30,7 +30,7 @@ fn towards(pair: LoadPair, d: &(i64, i64)) -> Towards
     }
 }
 
-/// Why there is no region where direction `k` has no reach.
+/// Why there is no region if direction `k` has no reach.
 fn refused(stop: DirectionStop, k: usize) -> RegionError
     ensures { result ≡ region_refusal stop k }
 {
@@ -45,7 +45,7 @@ fn refused(stop: DirectionStop, k: usize) -> RegionError
 }
 
 /// The region of two loads, over the surveys towards the first and towards the second of them alone: the reach of each
-/// direction, up to one where the dead loads fall, or that has none.
+/// direction, up to one at which the dead loads fall, or that has none.
 fn gathered(
     alloc: Global,
     s: &Survey,
@@ -80,7 +80,7 @@ fn gathered(
 }
 
 /// The region of two live loads, from `pair`: how far they can be raised together in each direction, from
-/// `read_directions`, and what forbids more. Each direction is judged within the budget of pivots; where the dead loads
+/// `read_directions`, and what forbids more. Each direction is judged within the budget of pivots; if the dead loads
 /// fall, that is the answer.
 ///
 /// Refused is the first direction with a number of more than 2^127 - 1 in size, in its judgement, in the powers of the

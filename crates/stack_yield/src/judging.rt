@@ -39,7 +39,7 @@ impl From<AllocError> for DirectionStop {
     }
 }
 
-/// What comes of a direction: a reach, or that the dead loads fall.
+/// The outcome of a direction: a reach, or that the dead loads fall.
 #[derive(Drop)]
 pub enum DirectionAnswer {
     Reaches(Reach),

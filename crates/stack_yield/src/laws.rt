@@ -1,9 +1,9 @@
-//! The laws of what comes of directions, each a clause of a function that does nothing.
+//! The laws of the outcome of directions, each a clause of a function that does nothing.
 
 ghost use Rattle.stack_yield.specs.ByDirections.{OutcomesAreByDirections, DirectionsAreDecided};
 
-/// What comes of all directions is what comes of the first that has no reach, or that each has one; and each of these
-/// is what comes of all.
+/// The outcome of all directions is that of the first one that has no reach, or that each has one. Conversely, such a
+/// first direction, or that each has a reach, decides the outcome of all.
 pub fn directions_laws()
     ensures by_directions { OutcomesAreByDirections }
     ensures decided { DirectionsAreDecided }

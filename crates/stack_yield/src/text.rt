@@ -67,7 +67,7 @@ fn with_direction(mut text: String, reach: &Reach) -> Result<String, AllocError>
     with_distance(text, reach)
 }
 
-/// The text with the line of a half-plane, where there is one.
+/// The text with the line of a half-plane, if there is one.
 fn with_half(mut text: String, reach: &Reach) -> Result<String, AllocError>
     ensures { IfOk result (λ t. string_bytes t ≡ string_bytes text ++ half_line (reach_view reach.now).half) }
 {
@@ -106,8 +106,8 @@ fn reaches_text(alloc: Global, reaches: &[Reach]) -> Result<String, AllocError>
 }
 
 /// The text of a region: the line `region COUNT`, and for each direction the line `dir M N reach X Y`, with X and Y as
-/// fractions in lowest terms, and the line `half P Q R`; or the line `dir M N unlimited` alone. Of a collapse the text
-/// of its certificate. `AllocError` where memory ran out.
+/// fractions in lowest terms, and the line `half P Q R`; or the line `dir M N unlimited` alone. For a collapse, the
+/// text of its certificate. `AllocError` if memory ran out.
 pub fn write_region(alloc: Global, region: Region) -> Result<Vec<u8>, AllocError>
     requires { CanPrintRegion (region_view region) }
     ensures { IfOk result (λ t. t.items ≡ region_text (region_view region)) }

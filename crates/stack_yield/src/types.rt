@@ -14,8 +14,8 @@ pub struct Reach {
     pub n: i64,
     /// A true `Greatest` or `Unbounded` of the survey that is directed so.
     pub certificate: Certificate,
-    /// The greatest multiple of (m, n), each coordinate a numerator and a positive denominator in lowest terms; none
-    /// where there is no greatest.
+    /// The greatest multiple of (m, n), each coordinate a numerator and a positive denominator in lowest terms; none if
+    /// there is no greatest.
     pub point: Option<((i128, i128), (i128, i128))>,
     /// P, Q and R of the half-plane P*a + Q*b <= R*D, which holds all pairs (a, b) over D that are carried.
     pub half: Option<(i128, i128, i128)>,

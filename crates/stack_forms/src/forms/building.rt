@@ -50,7 +50,7 @@ fn wide_stage(
     }
 }
 
-/// What comes of the stages of an order.
+/// The outcome of the stages of an order.
 fn stages_survey(
     alloc: Global,
     survey: &Survey,
@@ -74,7 +74,7 @@ fn stages_survey(
     }
 }
 
-/// What comes of the stages of the order in a text.
+/// The outcome of the stages of the order in a text.
 fn order_text(alloc: Global, text: &[u8], survey: &Survey, budget: u32) -> Result<Answer, Refusal>
     requires { budget ≢ 0 }
     ensures { DoesAlone AnswersDue (order_work budget survey.now text.now) result }
@@ -85,7 +85,7 @@ fn order_text(alloc: Global, text: &[u8], survey: &Survey, budget: u32) -> Resul
     }
 }
 
-/// What comes of the stages of the order in a file.
+/// The outcome of the stages of the order in a file.
 fn order_file<F: Shelf>(
     alloc: Global,
     shelf: &mut F,

@@ -57,7 +57,7 @@ fn accepted_answer(
     }
 }
 
-/// The check of a certificate, and what is asked of it where it is accepted.
+/// The check of a certificate, and what is asked of it if it is accepted.
 fn certificate_answer(
     alloc: Global,
     survey: &Survey,

@@ -25,7 +25,7 @@ fn range_verdict(found: &Range) -> Verdict
     }
 }
 
-/// How the judgement of a side is told.
+/// How the judgement of a side is named.
 fn within(side: Side) -> Within
     ensures { result ≡ within_of side }
 {

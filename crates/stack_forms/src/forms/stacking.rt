@@ -35,8 +35,8 @@ fn build_stack(alloc: Global, kind: Kind, size: u32) -> Result<Model, Refusal>
     }
 }
 
-/// The document of a model. What lays it out promises no length: one that would be too long to be read isn't given, as
-/// where memory is wanting.
+/// The document of a model. The function that lays it out promises no length: a document that would be too long to be
+/// read isn't given, as if memory had run out.
 fn described(alloc: Global, model: &Model) -> Result<Answer, Refusal>
     ensures { DoesAlone AnswersDue (gives (document (model_view model.now))) result }
 {

@@ -3,7 +3,7 @@
 use super::{apply, fraction};
 use stack_rational::{Exact, Frac, Op};
 
-/// What an answer should be: the parts of a fraction, or none where it is more than 127.
+/// What an answer should be: the parts of a fraction, or none if it is more than 127.
 type Expected = Option<(i128, i128)>;
 
 fn plain_divisor(a: i128, b: i128) -> i128 {
@@ -101,7 +101,7 @@ fn all_agree(left: Frac<i8>, right: Frac<i8>) -> bool {
         && agrees(Op::Quotient, left, right)
 }
 
-/// Both against one another; where one can't be made they don't agree.
+/// Both against one another; if one can't be made they don't agree.
 fn agree(left: (i8, i8), right: (i8, i8)) -> bool {
     let left = fraction::<Frac<i8>>(i128::from(left.0), i128::from(left.1));
     let right = fraction::<Frac<i8>>(i128::from(right.0), i128::from(right.1));
