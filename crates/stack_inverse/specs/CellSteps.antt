@@ -1,4 +1,4 @@
--- What is told of a row step cell by cell: the reduced cell, or the written step that is too wide for 128 bits.
+-- What is said of a row step cell by cell: the reduced cell, or the written step that is too wide for 128 bits.
 use Rattle.std.specs.Prelude.{◌≡◌, ◌≢◌, ℕ, ◌<◌, ℤ, ⊤, Option, Some, None, Result, Ok, Err}
 use Rattle.stack_algebra.specs.Fraction.{Fraction}
 use Rattle.stack_algebra.proofs.OrderedFractions.{ordered_fractions}
@@ -15,7 +15,7 @@ abbrev pub spot_at : (row column : ℕ) → Option Step → Option PivotWide
 spot_at i j None = None
 spot_at i j (Some s) = Some (record { row = i; column = j; step = s })
 
--- the cell x less k times the pivot row's cell y, at which nothing is too wide; or the step that is
+-- the cell x minus k times the pivot row's cell y, if nothing is too wide there; or the step that is
 abbrev pub TellsCell : Result Fraction Step → (x y k : Fraction) → Type 0
 TellsCell (Ok z) x y k = (z ≡ reduced ordered_fractions (λ _. x) (λ _. y) k 0)
     × ((i j : ℕ) → reduce_item ordered_fractions (is_too_wide widest) (λ _. x) (λ _. y) k i j ≡ None)
@@ -32,7 +32,7 @@ abbrev pub TellsSpot : TurnRefusal → Option PivotWide → Type 0
 TellsSpot (TooWide p) spot = spot ≡ Some p
 TellsSpot Unsettled spot = ⊤
 
--- what a refusal of a row says of the first place that is too wide, where the rows before it but row r were reduced by
+-- what a refusal of a row says of the first place that is too wide, if the rows before it but row r were reduced by
 -- the row g without one
 pub record RefusesAt (m : ℤ) (width : ℕ) (old : ℕ → ℕ → Fraction) (g : ℕ → Fraction) (r c k : ℕ) (e : TurnRefusal)
     : Type 0 where

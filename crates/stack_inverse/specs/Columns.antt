@@ -36,7 +36,7 @@ number m n F own d a s j = by_place (ltb j n) (ltb j (n + m)) (eqb j (n + m))
 abbrev pub plain_own : ℕ → ℤ
 plain_own j = pos 0
 
--- the number in a row of a column of cells, 0 where none stands there
+-- the number in a row of a column of cells, 0 if none stands there
 abbrev pub entry_of : List Cell → ℕ → ℤ
 entry_of [] i = pos 0
 entry_of (x ∷ xs) i = cond (eqb x.row i) x.value (entry_of xs i)
@@ -77,7 +77,7 @@ pub record RowSeen : Type 0 where
   pub under : ℤ
   pub fits : Bool
 
--- where there is no row
+-- what stands for a row if there is none
 abbrev pub no_row : RowSeen
 no_row = record { numbers = []; under = pos 1; fits = false }
 

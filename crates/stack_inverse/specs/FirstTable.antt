@@ -27,7 +27,7 @@ AreTurned right (x ∷ xs) [] = ⊥
 AreTurned right (x ∷ xs) (c ∷ cs) =
     (c.row ≡ x.row) × (c.value ≡ turned (flips right x.row) x.value) × AreTurned right xs cs
 
--- so in each column
+-- the same for each column
 abbrev pub AreFirstColumns : Lent → List FirstColumn → Type 0
 AreFirstColumns P columns =
     (j : ℕ) → j < length columns → AreTurned P.right.items (entries_at P j) (cells_at columns j)
@@ -45,7 +45,7 @@ pub record IsFirstRow (m : ℕ) (s : ℕ → RowSeen) (i : ℕ) (load : ℤ) : T
   pub number : (j : ℕ) → number_at (s i).numbers j ≡ cond (eqb j m) load (cond (eqb j i) (pos 1) (pos 0))
   pub under : (s i).under ≡ pos 1
 
--- 0 less the right sides of the first n rows
+-- minus the sum of the right sides of the first n rows
 abbrev pub less_loads : List ℤ → ℕ → ℤ
 less_loads right n = pos 0 -ℤ sum_to n (load_at right)
 

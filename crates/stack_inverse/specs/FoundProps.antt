@@ -1,4 +1,4 @@
--- What is told of a search has one proof at most.
+-- What is said of a search's answer has one proof at most.
 use Rattle.std.specs.Prelude.{ℕ, ◌<◌, Option, Some, None}
 use Rattle.std.specs.Coded.{coded_ℕ, coded_option}
 use native.Mathlib.Bridge.{le_prop}
@@ -18,7 +18,7 @@ TellsFound-prop GaveUp o = Unit-prop
 TellsFound-prop Nothing o = number_set None o
 TellsFound-prop (This x) o = number_set (Some x) o
 
--- a bound of what is found
+-- a bound on what is found
 pub below_prop : (r : Found ℕ) (n : ℕ) → IsProp (IfFound r (λ x. x < n))
 below_prop GaveUp n = Unit-prop
 below_prop Nothing n = Unit-prop

@@ -36,7 +36,7 @@ abbrev pub ArePlaces : List Marks → (rows : ℕ) → (ℕ → RowSeen) → Typ
 ArePlaces places rows s = (i r : ℕ) → i < rows → r < rows → mark_at places r i ≡ 0 →
     number_at (s i).numbers r ≡ pos 0
 
--- of n columns one without a mark has no negative number
+-- among n columns those without a mark have no negative number
 abbrev pub AreClean : (ℕ → ℤ) → (n : ℕ) → (words : List ℕ) → Type 0
 AreClean f n words = (j : ℕ) → j < n → mark_in words j ≡ 0 → is_negative_sign (sign_of (f j)) ≡ false
 

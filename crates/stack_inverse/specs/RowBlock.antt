@@ -27,7 +27,7 @@ AllNumbersFit m cell = (j : ℕ) → fraction_fits m (cell j) ≡ true
 abbrev pub AreFitting : ℤ → (ℕ → ℕ → Fraction) → (ℕ → RowSeen) → Type 0
 AreFitting m cell s = (i : ℕ) → (s i).fits ≡ true → AllNumbersFit m (cell i)
 
--- what a step of a row over d makes fits m, by a top of all its numbers and one of the pivot row's
+-- the numbers of a row over d fit m after a step, by a top of all its numbers and one of the pivot row's
 pub record FitsByTop (m : ℤ) (rows : ℕ) (row : List ℤ) (d : ℤ) (column_top own_top : ℕ) (k t : ℤ) (p : ℕ) : Type 0
   where
     pub whole_top : ℕ

@@ -30,7 +30,7 @@ pub record IsEntered (t : RevisedTable) (column : ℕ) : Type 0 where
   pub fit : (i : ℕ) → i ≤ t.given.first.rows → unsigned_abs (number_at t.entered.items i) ≤ unsigned_abs widest
   pub right_fits : (i : ℕ) → i ≤ t.given.first.rows → number_at t.entered.items i ≢ pos 0 →
       unsigned_abs (number_at (seen_at t.rows.items i).numbers t.given.first.rows) ≤ unsigned_abs widest
-  pub touched : (i : ℕ) → i ≤ t.given.first.rows → mark_in t.touched.words.items i ≡ 0 →
+  pub touched : (i : ℕ) → i ≤ t.given.first.rows → mark_in t.to_visit.touched.words.items i ≡ 0 →
       number_at t.entered.items i ≡ pos 0
 
 -- the cells as exact fractions by row and column, and the basic column of each row

@@ -1,4 +1,4 @@
-//! Whether a row step fits, by tops: as one that is kept, or as one of its numbers.
+//! Whether a row step fits, by tops: those that the rows keep, or lower ones made from their numbers.
 
 ghost use Rattle.std.specs.Prelude.{◌≡◌, suc, ◌≤◌, true, length, unsigned_abs, OnSome, IfSome};
 ghost use Rattle.stack_rational.specs.Laws.{widest};
@@ -23,7 +23,7 @@ pub fn own_top_of(given: &Given, i: usize) -> u128
     }
 }
 
-/// Whether a bound of what a step makes of a row fits. The answer no isn't pinned.
+/// Whether a bound on the numbers of a row after a step fits. The answer no isn't pinned.
 fn fits_by(first: &First, row: &Row, pivot: &PivotRow, factors: Factors, own_top: u128) -> bool
     requires { length row.now.numbers.items ≡ suc first.now.rows }
     ensures { result ≡ true → FitsByTop widest first.now.rows row.now.numbers.items row.now.under first.now.top own_top
@@ -35,7 +35,7 @@ fn fits_by(first: &First, row: &Row, pivot: &PivotRow, factors: Factors, own_top
     }
 }
 
-/// The step of a row in which all is small, in each column: then it fits. Gives up where something may not be.
+/// The step of a row if all its numbers are small, in each column: then it fits. Gives up if one may not be.
 pub fn small_step(
     first: &First,
     row: &Row,
@@ -58,7 +58,7 @@ pub fn small_step(
     Some(step)
 }
 
-/// The same, with a lesser top where it doesn't fit by the one that is kept.
+/// Whether the step fits, by the top that the row keeps, or else by a lower one.
 pub fn fits_for(
     first: &First,
     row: &mut Row,
@@ -83,7 +83,7 @@ pub fn fits_for(
 const WIDEST: u128 = i128::MAX as u128;
 
 /// A top of all numbers of a row without own cells, which fits: by that of its artificial numbers, or else by each.
-/// Gives up likely where one of them doesn't fit.
+/// Likely gives up if one of them doesn't fit.
 pub fn pivot_top(first: &First, row: &Row) -> Option<u128>
     requires { length row.now.numbers.items ≡ suc first.now.rows }
     ensures within { IfSome result (λ b. AreWithin (row_number first.now.rows first.now.columns.items

@@ -19,7 +19,7 @@ use stack_rows::word;
 use stack_table::{Entry, Problem};
 use std::alloc::Global;
 
-/// A number of a row, flipped as the row is. Gives up where it doesn't fit.
+/// A number of a row, flipped as the row is. Gives up if it doesn't fit.
 pub fn turned(right: &[i128], row: usize, number: i128) -> Option<i128>
     requires { row < length right.now }
     ensures { IfSome result (λ r. r ≡ turned (flips right.now row) number) }
@@ -126,7 +126,7 @@ fn less_cells(cells: &[Cell]) -> Option<i128>
     Some(rest)
 }
 
-/// In each column 0 less its values: the own cells of the objective row of phase 1.
+/// For each column minus the sum of its values: the own cells of the objective row of phase 1.
 pub fn own_cells(alloc: Global, columns: &[FirstColumn]) -> Result<Vec<i128>, NoTable>
     ensures long { IfOk result (λ own. length own.items ≡ length columns.now) }
     ensures cells { IfOk result (λ own. (j : ℕ) → j < length columns.now →

@@ -39,7 +39,7 @@ fn put_first_row(
     Some(load)
 }
 
-/// Puts the first rows, each over 1. Gives 0 less their right sides.
+/// Puts the first rows, each over 1. Gives minus the sum of their right sides.
 fn put_first_rows(rows: &mut [TableRow], numbers: &mut [i128], right: &[i128]) -> Option<i128>
     requires width { length numbers.old ≡ suc (length right.now) }
     requires height { length rows.old ≡ suc (length right.now) }
@@ -58,7 +58,7 @@ fn put_first_rows(rows: &mut [TableRow], numbers: &mut [i128], right: &[i128]) -
     Some(rest)
 }
 
-/// Puts the first rows and the objective row of phase 1. Gives up likely where the sum of the right sides doesn't fit.
+/// Puts the first rows and the objective row of phase 1. Likely gives up if the sum of the right sides doesn't fit.
 pub fn fill(rows: &mut [TableRow], numbers: &mut [i128], right: &[i128]) -> Result<(), NoTable>
     requires width { length numbers.old ≡ suc (length right.now) }
     requires height { length rows.old ≡ suc (length right.now) }

@@ -1,4 +1,4 @@
-//! What the numbers of a row in the plain columns are made of.
+//! What the numbers of a row in the plain columns are made from.
 
 ghost use Rattle.std.specs.Prelude.{◌≡◌, length};
 ghost use Rattle.stack_inverse.specs.Columns.{IsOwn};

@@ -1,11 +1,11 @@
 //! The table of a revised run: the inverse of its basis in whole numbers, from which the plain columns are made.
 //!
 //! Each row of the table is kept as whole numbers over one denominator: one for each artificial column, which make the
-//! inverse of the basis, and the right side. A number of a plain column is made from these and the first rows where it
+//! inverse of the basis, and the right side. A number of a plain column is made from these and the first rows when it
 //! is needed. After the revised simplex method of Dantzig and Orchard-Hays (1954).
 //!
-//! A call may give up, with None or `Unsettled`. No clause says when, but each call says where that is likely. It says
-//! nothing of the written run. What a call answers else is exact.
+//! A call may give up, with None or `Unsettled`. No clause says when, but each call says when that is likely. It says
+//! nothing about the written run. All other answers are exact.
 //!
 //! ```text
 //! let mut table = RevisedTable::of_problem(alloc, &problem)?; // the written table
@@ -30,6 +30,7 @@ mod revised_table;
 mod row;
 mod spots;
 mod stops;
+mod to_visit;
 
 pub use revised_table::RevisedTable;
 pub use spots::cell;

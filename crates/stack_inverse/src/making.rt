@@ -21,7 +21,7 @@ use crate::row::TableRow;
 use num_traits::CheckedAdd;
 use stack_rows::{SMALL, product, product_of, size_product, whole_product};
 
-/// A sum and the product of a number and a word.
+/// A sum plus the product of a number and a word.
 fn added(sum: i128, number: i128, by: i64) -> Option<i128>
     ensures { IfSome result (λ r. r ≡ sum +ℤ number *ℤ by) }
 {
@@ -36,7 +36,7 @@ fn product_of_word(number: i128, by: i64) -> i128
     product_of(number as i64, by)
 }
 
-/// A number and the products of a row with the numbers of a column.
+/// A number plus the products of a row with the numbers of a column.
 fn sum_over(cells: &[Cell], numbers: &[i128], start: i128) -> Option<i128>
     ensures { IfSome result (λ r. r ≡ start +ℤ sum_of (λ x. number_at numbers.now x.row *ℤ x.value) cells.now) }
 {
@@ -50,7 +50,7 @@ fn sum_over(cells: &[Cell], numbers: &[i128], start: i128) -> Option<i128>
     Some(sum)
 }
 
-/// The sum of the products of a row of words with the numbers of a column, without a test of the sum. It fits where the
+/// The sum of the products of a row of words with the numbers of a column, without a test of the sum. It fits if the
 /// sizes of the column together aren't more than `SMALL`.
 fn sum_words(cells: &[Cell], numbers: &[i128]) -> Option<i128>
     requires { IsTopped numbers.now (2 ^ 63 - 1) }
@@ -83,7 +83,7 @@ fn own_over(given: &Given, i: usize, j: usize, under: i128) -> Option<i128>
     whole_product(under, given.own[j])
 }
 
-/// The number of row i in a plain column, over its denominator. Gives up likely where a sum of products doesn't fit.
+/// The number of row i in a plain column, over its denominator. Likely gives up if a sum of products doesn't fit.
 pub fn number_of(given: &Given, row: &TableRow, i: usize, j: usize) -> Option<i128>
     requires { j < length given.now.first.columns.items }
     ensures { IfSome result (λ r. r ≡ number_in_row given.now (seen_of row.now) i j) }
@@ -98,7 +98,7 @@ pub fn number_of(given: &Given, row: &TableRow, i: usize, j: usize) -> Option<i1
     }
 }
 
-/// The same. Gives up also where it or the right side of the row is the least number of all, whose size doesn't fit.
+/// The same. Also gives up if it or the right side of the row is the least number of all, whose size doesn't fit.
 fn sized_number(given: &Given, row: &TableRow, i: usize, j: usize) -> Option<i128>
     requires column_in { j < length given.now.first.columns.items }
     requires width { length row.now.row.numbers.items ≡ suc given.now.first.rows }
@@ -116,7 +116,7 @@ fn sized_number(given: &Given, row: &TableRow, i: usize, j: usize) -> Option<i12
 }
 
 /// Makes the numbers of a plain column, row by row. `marks` has a mark of each row that may have something in one of
-/// the column's rows, and afterwards of those whose number isn't 0. Gives up likely where a sum of products doesn't
+/// the column's rows, and afterwards of those whose number isn't 0. Likely gives up if a sum of products doesn't
 /// fit.
 pub fn enter_column(
     given: &Given,
@@ -154,7 +154,7 @@ pub fn enter_column(
     Some(())
 }
 
-/// The bits of the sizes of numbers together: a top of them.
+/// The bits of the sizes of numbers, joined: a top of them.
 #[tactic(auto, using(std::proofs::lemmas::Nat::le_or_l, std::proofs::lemmas::Nat::le_or_r))]
 pub fn top_of(numbers: &[i128]) -> u128
     ensures { (k : ℕ) → unsigned_abs (number_at numbers.now k) ≤ result }
@@ -174,7 +174,7 @@ pub fn larger(a: u128, b: u128) -> u128
     if a < b { b } else { a }
 }
 
-/// A top of all numbers of a row over this denominator, by that of its artificial numbers. Gives up likely where it
+/// A top of all numbers of a row over this denominator, by that of its artificial numbers. Likely gives up if it
 /// doesn't fit.
 pub fn whole_top(
     first: &First,
@@ -193,7 +193,7 @@ pub fn whole_top(
     Some(larger(both, numbers[first.rows].unsigned_abs()))
 }
 
-/// The number of a row without own cells in any column, the right side last. Gives up likely where a sum of products
+/// The number of a row without own cells in any column, the right side last. Likely gives up if a sum of products
 /// doesn't fit.
 pub fn row_number(first: &First, row: &[i128], j: usize) -> Option<i128>
     requires width { length row.now ≡ suc first.now.rows }
@@ -207,7 +207,7 @@ pub fn row_number(first: &First, row: &[i128], j: usize) -> Option<i128>
     Some(row[j - plain])
 }
 
-/// A top of all numbers of a row without own cells, by each of them. Gives up likely where one doesn't fit.
+/// A top of all numbers of a row without own cells, by each of them. Likely gives up if one doesn't fit.
 pub fn top_in(first: &First, row: &[i128]) -> Option<u128>
     requires { length row.now ≡ suc first.now.rows }
     ensures { IfSome result (λ b. (d : ℤ) → AreWithin (row_number first.now.rows first.now.columns.items row.now d) b) }

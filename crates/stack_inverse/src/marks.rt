@@ -53,7 +53,7 @@ impl Marks {
         self.words[j / 64] = self.words[j / 64] & !(1u64 << (j % 64));
     }
 
-    /// Takes all marks away.
+    /// Clears all marks.
     pub fn clear(&mut self)
         ensures { length self.new.words.items ≡ length self.old.words.items }
     {
@@ -99,7 +99,7 @@ impl Marks {
         }
     }
 
-    /// The next place with a mark from one on; the end where none has.
+    /// The next place with a mark from one on; the end if there is none.
     pub fn next(&self, from: usize, end: usize) -> usize
         requires long { length self.now.words.items ≡ suc (end / 64) }
         requires within { from ≤ end }
@@ -145,7 +145,7 @@ pub fn fill_lists(lists: &mut [Marks])
     }
 }
 
-/// Marks what the list of one of the rows of a column marks, and nothing else.
+/// Marks what the list of any row of a column marks, and nothing else.
 pub fn mark_column(lists: &[Marks], cells: &[Cell], marks: &mut Marks)
     requires wide { HaveWords lists.now (length marks.old.words.items) }
     requires rows { AllByRecursion (λ x. x.row < length lists.now) cells.now }
@@ -202,8 +202,8 @@ pub fn uses_of(alloc: Global, first: &First) -> Result<Vec<Marks>, NoTable>
     Ok(uses)
 }
 
-/// The least plain column in which the objective row is negative, looked for among those with a mark. Takes the marks
-/// of those before it away. Gives up likely where a sum of products doesn't fit.
+/// The least plain column in which the objective row is negative, looked for among those with a mark. Clears the
+/// marks of those before it. Likely gives up if a sum of products doesn't fit.
 pub fn least_negative(given: &Given, row: &TableRow, marks: &mut Marks) -> Found<usize>
     requires long { length marks.old.words.items ≡ suc (length given.now.first.columns.items / 64) }
     requires clean { AreClean (number_in_row given.now (seen_of row.now) given.now.first.rows)

@@ -27,7 +27,7 @@ pub fn set_only(row: &mut [i128], column: usize, number: i128)
 }
 
 /// The numbers of a row whose cell in the column has to be 1, and its denominator; without a row, 0 over 1. Gives up
-/// where that cell isn't 1, and likely nowhere else.
+/// if that cell isn't 1, and isn't likely to otherwise.
 pub fn factor_row(
     given: &Given,
     rows: &[TableRow],

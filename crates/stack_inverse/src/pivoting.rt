@@ -16,14 +16,14 @@ ghost use Rattle.stack_rows.specs.RowForm.{number_at};
 
 use crate::bounding::{pivot_top, under_fits};
 use crate::given::Given;
-use crate::marks::Marks;
 use crate::reducing::reduce;
 use crate::row::{PivotRow, TableRow};
+use crate::to_visit::ToVisit;
 use stack_rows::{Divider, Row};
 use stack_table::TurnRefusal;
 
-/// Divides row r, which isn't the objective row, by its cell in a column, whose number is given. Gives up likely where
-/// a number of the row in a plain column doesn't fit.
+/// Divides row r, which isn't the objective row, by its cell in a column, whose number is given. Likely gives up
+/// if a number of the row in a plain column doesn't fit.
 fn divide(
     given: &Given,
     row: &TableRow,
@@ -71,32 +71,14 @@ fn put_pivot(rows: &mut [TableRow], i: usize, pivot: &Row)
     row.fits = true;
 }
 
-/// The next row that a pivot may change, from one on: where all are known to fit, the next in which the column has
-/// something.
-fn next_row(touched: &Marks, all_fit: bool, from: usize, end: usize) -> usize
-    requires long { length touched.now.words.items ≡ suc (end / 64) }
-    requires within { from ≤ end }
-    ensures later { from ≤ result }
-    ensures within { result ≤ end }
-    ensures none { (j : ℕ) → from ≤ j → j < result → (all_fit ≡ true) × (mark_in touched.now.words.items j ≡ 0) }
-{
-    if all_fit {
-        touched.next(from, end)
-    } else {
-        from
-    }
-}
-
 /// Reduces each row but the pivot's by the pivot row. `entered` has the numbers of the column, and a row without a mark
-/// has 0 there. `all_fit`: all rows are known to fit. `TooWide` names the first operation that is too wide. Given up as
-/// `reduce` is.
+/// of `to_visit` has 0 there. `TooWide` names the first operation that is too wide. Gives up as `reduce` does.
 fn reduce_others(
     given: &Given,
     rows: &mut [TableRow],
     pivot: &PivotRow,
     entered: &[i128],
-    touched: &Marks,
-    all_fit: bool,
+    to_visit: &ToVisit,
     row: usize,
     column: usize,
 ) -> Result<(), TurnRefusal>
@@ -107,10 +89,11 @@ fn reduce_others(
     requires entered { AreEntered given.now.first.rows given.now.first.columns.items given.now.own.items
         (seen_at rows.old) column entered.now }
     requires fitting { AreFitting widest (cells_of_rows given.now rows.old) (seen_at rows.old) }
-    requires touched_long { length touched.now.words.items ≡ suc (suc given.now.first.rows / 64) }
-    requires touched { (i : ℕ) → i ≤ given.now.first.rows → mark_in touched.now.words.items i ≡ 0 →
+    requires touched_long { length to_visit.now.touched.words.items ≡ suc (suc given.now.first.rows / 64) }
+    requires touched { (i : ℕ) → i ≤ given.now.first.rows → mark_in to_visit.now.touched.words.items i ≡ 0 →
         number_at entered.now i ≡ pos 0 }
-    requires all_fit { all_fit ≡ true → (i : ℕ) → i ≤ given.now.first.rows → (seen_at rows.old i).fits ≡ true }
+    requires all_fit { to_visit.now.all_fit ≡ true → (i : ℕ) → i ≤ given.now.first.rows →
+        (seen_at rows.old i).fits ≡ true }
     ensures widths { HaveWidths given.now.first.rows (seen_at rows.new) }
     ensures fitting { AreFitting widest (cells_of_rows given.now rows.new) (seen_at rows.new) }
     ensures fit { OnOk result ((k : ℕ) → k < suc given.now.first.rows → (k ≢ row) → (seen_at rows.new k).fits ≡ true) }
@@ -121,31 +104,30 @@ fn reduce_others(
         (cells_of_rows given.now rows.old) (pivot_cell given.now pivot.now) row column e) }
 {
     let divider = Divider::of(pivot.row.under);
-    let mut i = next_row(touched, all_fit, 0, rows.len());
+    let mut i = to_visit.next_row(0, rows.len());
     while i < rows.len() {
         if i == row {
-            i = next_row(touched, all_fit, i + 1, rows.len());
+            i = to_visit.next_row(i + 1, rows.len());
             continue;
         }
         match reduce(given, &mut rows[i], pivot, divider, entered[i], i) {
             Ok(()) => {}
             Err(e) => return Err(e),
         }
-        i = next_row(touched, all_fit, i + 1, rows.len());
+        i = to_visit.next_row(i + 1, rows.len());
     }
     Ok(())
 }
 
-/// A pivot at a row and a column, whose numbers are `entered`; `pivot` is room for the pivot row. `touched` and
-/// `all_fit` as in `reduce_others`. `TooWide` names the first operation that is too wide. Given up where the row can't
-/// be divided, or another not reduced.
+/// A pivot at a row and a column, whose numbers are `entered`; `pivot` is room for the pivot row, and `to_visit` as in
+/// `reduce_others`. `TooWide` names the first operation that is too wide. Gives up if the row can't be divided, or
+/// another can't be reduced.
 pub fn pivot_rows(
     given: &Given,
     rows: &mut [TableRow],
     pivot: &mut PivotRow,
     entered: &[i128],
-    touched: &Marks,
-    all_fit: bool,
+    to_visit: &ToVisit,
     row: usize,
     column: usize,
 ) -> Result<(), TurnRefusal>
@@ -156,10 +138,11 @@ pub fn pivot_rows(
     requires long { length entered.now ≡ suc given.now.first.rows }
     requires entered { AreEntered given.now.first.rows given.now.first.columns.items given.now.own.items
         (seen_at rows.old) column entered.now }
-    requires touched_long { length touched.now.words.items ≡ suc (suc given.now.first.rows / 64) }
-    requires touched { (i : ℕ) → i ≤ given.now.first.rows → mark_in touched.now.words.items i ≡ 0 →
+    requires touched_long { length to_visit.now.touched.words.items ≡ suc (suc given.now.first.rows / 64) }
+    requires touched { (i : ℕ) → i ≤ given.now.first.rows → mark_in to_visit.now.touched.words.items i ≡ 0 →
         number_at entered.now i ≡ pos 0 }
-    requires all_fit { all_fit ≡ true → (i : ℕ) → i ≤ given.now.first.rows → (seen_at rows.old i).fits ≡ true }
+    requires all_fit { to_visit.now.all_fit ≡ true → (i : ℕ) → i ≤ given.now.first.rows →
+        (seen_at rows.old i).fits ≡ true }
     requires row_in { row < given.now.first.rows }
     requires some { number_in_row given.now (seen_at rows.old row) row column ≢ pos 0 }
     ensures widths { HaveWidths given.now.first.rows (seen_at rows.new) }
@@ -175,7 +158,7 @@ pub fn pivot_rows(
         Some(()) => {}
         None => return Err(TurnRefusal::Unsettled),
     }
-    match reduce_others(given, rows, pivot, entered, touched, all_fit, row, column) {
+    match reduce_others(given, rows, pivot, entered, to_visit, row, column) {
         Ok(()) => {
             put_pivot(rows, row, &pivot.row);
             Ok(())

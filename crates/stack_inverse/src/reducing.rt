@@ -33,8 +33,8 @@ fn first_fit(row: &[i128], pivot: &[i128], s: &RowStep, count: usize) -> bool
     true
 }
 
-/// Takes a multiple of the pivot row from a row: from its numbers but for the right side, which becomes the reduced
-/// cell. Gives up where a number doesn't fit.
+/// Subtracts a multiple of the pivot row from a row: number by number, but the right side becomes the reduced cell.
+/// Gives up if a number doesn't fit.
 fn take_by_cell(row: &mut Row, pivot: &Row, s: &RowStep) -> Option<()>
     requires width { length pivot.now.numbers.items ≡ length row.old.numbers.items }
     requires under { s.now.under ≡ row.old.under }
@@ -59,7 +59,7 @@ fn right_fits(row: &[i128], pivot: &[i128], s: &RowStep) -> bool {
     }
 }
 
-/// The same, the right side from its number too where that fits.
+/// The same, but the right side is also made from its number if that fits.
 fn take_numbers(row: &mut Row, pivot: &Row, s: &RowStep) -> Option<()>
     requires width { length pivot.now.numbers.items ≡ length row.old.numbers.items }
     requires under { s.now.under ≡ row.old.under }
@@ -74,8 +74,8 @@ fn take_numbers(row: &mut Row, pivot: &Row, s: &RowStep) -> Option<()>
     }
 }
 
-/// Takes a multiple of the pivot row from a row: from its numbers where these but the right side fit one by one, and
-/// else from the reduced cells. Gives up likely where these have no common denominator with which all numbers fit.
+/// Subtracts a multiple of the pivot row from a row: number by number if all but the right side fit, one by one, and
+/// otherwise from the reduced cells. Likely gives up if these have no common denominator with which all numbers fit.
 fn take_or_remake(row: &mut Row, pivot: &Row, s: &RowStep) -> Option<()>
     requires width { length pivot.now.numbers.items ≡ length row.old.numbers.items }
     requires under { s.now.under ≡ row.old.under }
@@ -93,7 +93,7 @@ fn take_or_remake(row: &mut Row, pivot: &Row, s: &RowStep) -> Option<()>
     }
 }
 
-/// The same cell by cell. `TooWide` names the first operation that is too wide. Given up likely where the reduced cells
+/// The same cell by cell. `TooWide` names the first operation that is too wide. Likely given up if the reduced cells
 /// have no common denominator with which all numbers fit.
 fn step_by_cells(
     given: &Given,
@@ -128,7 +128,7 @@ fn step_by_cells(
     }
 }
 
-/// The same by tops, or cell by cell where the step doesn't fit by these. `number` is the row's in the pivot's column.
+/// The same by tops, or cell by cell if the step doesn't fit by these. `number` is the row's in the pivot's column.
 fn step(
     given: &Given,
     row: &mut TableRow,
@@ -188,7 +188,7 @@ fn step(
     }
 }
 
-/// Whether a row whose number in the pivot's column this is stays as it is.
+/// Whether a row with this number in the pivot's column stays as it is.
 fn stays(row: &TableRow, number: i128) -> bool
     ensures zero { result ≡ true → is_zero_whole number ≡ true }
     ensures fits { result ≡ true → row.now.fits ≡ true }
@@ -196,8 +196,9 @@ fn stays(row: &TableRow, number: i128) -> bool
     number == 0 && row.fits
 }
 
-/// Takes from row i its cell in a column, whose number is given, times the pivot row. A row that is known to fit stays
-/// where its cell is 0, and one that is reduced fits; one whose step is refused is spent, and isn't known to fit.
+/// Subtracts from row i the pivot row times the row's cell in a column, whose number is given. A row that is known to
+/// fit stays as it is if its cell is 0, and one that is reduced fits; one whose step is refused is spent, and isn't
+/// known to fit.
 pub fn reduce(
     given: &Given,
     row: &mut TableRow,

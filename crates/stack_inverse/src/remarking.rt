@@ -23,8 +23,8 @@ pub fn first_places(alloc: Global, rows: usize, width: usize) -> Result<Vec<Mark
     Ok(places)
 }
 
-/// Marks on after a pivot: `row` is the pivot's row by now, and `touched` marks the rows in which its column had
-/// something. Where the pivot wasn't done, all is marked.
+/// Brings the marks up to date after a pivot: `row` is the pivot's row as it is now, and `touched` marks the rows in
+/// which its column had something. If the pivot wasn't done, all is marked.
 pub fn mark_on(
     done: bool,
     places: &mut [Marks],

@@ -23,6 +23,7 @@ use crate::pivoting::{pivot_rows, put_row};
 use crate::remarking::{first_places, mark_on};
 use crate::row::{PivotRow, TableRow};
 use crate::stops::NoTable;
+use crate::to_visit::ToVisit;
 use stack_bland::Found;
 use stack_rows::Row;
 use stack_table::{Problem, TurnRefusal, row_with};
@@ -52,13 +53,11 @@ pub struct RevisedTable {
     places: Vec<Marks>,
     /// For each row a list of marks: a plain column without one has no number there.
     uses: Vec<Marks>,
-    /// Marks of the rows in which the entering column has something.
-    touched: Marks,
-    /// Whether all cells of all rows are known to fit.
-    all_fit: bool,
+    /// The rows that the next pivot visits.
+    to_visit: ToVisit,
     /// Marks of plain columns: in one without a mark the objective row isn't negative.
     open: Marks,
-    /// The least plain column in which it is.
+    /// The least plain column in which it is negative.
     least: Found<usize>,
     contacts: usize,
     has_factor: bool,
@@ -74,8 +73,8 @@ pub struct RevisedTable {
     ghost uses_long: { length uses.items ≡ given.first.rows },
     ghost uses_wide: { HaveWords uses.items (suc (length given.first.columns.items / 64)) },
     ghost used: { AreUses uses.items given.first.columns.items } by { Prim.hlevel props },
-    ghost each_fits: { all_fit ≡ true → (i : ℕ) → i ≤ given.first.rows → (seen_at rows.items i).fits ≡ true },
-    ghost touched_long: { length touched.words.items ≡ suc (suc given.first.rows / 64) },
+    ghost each_fits: { to_visit.all_fit ≡ true → (i : ℕ) → i ≤ given.first.rows → (seen_at rows.items i).fits ≡ true },
+    ghost touched_long: { length to_visit.touched.words.items ≡ suc (suc given.first.rows / 64) },
     ghost open_long: { length open.words.items ≡ suc (length given.first.columns.items / 64) },
     ghost clean: { AreClean (number_in_row given (seen_at rows.items given.first.rows) given.first.rows)
         (length given.first.columns.items) open.words.items },
@@ -99,7 +98,7 @@ impl RevisedTable {
     ghost use Rattle.stack_table.specs.WrittenTable.{written_table};
     ghost use Rattle.stack_inverse.specs.Seen.{shape_of_revised, table_of_revised, number_in, under_in, IsEntered};
 
-    /// The written table of a problem. All memory of a run is taken here. Given up likely where an entry, or the sum of
+    /// The written table of a problem. All memory of a run is taken here. Likely given up if an entry, or the sum of
     /// the right sides, doesn't fit.
     pub fn of_problem(alloc: Global, p: &Problem) -> Result<RevisedTable, NoTable>
         requires { IsProblem p.now }
@@ -134,8 +133,10 @@ impl RevisedTable {
             entered,
             places,
             uses,
-            touched,
-            all_fit: false,
+            to_visit: ToVisit {
+                touched,
+                all_fit: false,
+            },
             open,
             least,
             contacts: p.contact.len(),
@@ -177,7 +178,7 @@ impl RevisedTable {
         self.basic[i]
     }
 
-    /// The number in a row and a plain column, over the denominator of the row. Gives up likely where a sum of products
+    /// The number in a row and a plain column, over the denominator of the row. Likely gives up if a sum of products
     /// doesn't fit.
     pub fn number(&self, i: usize, j: usize) -> Option<i128>
         requires i_in { i ≤ (shape_of_revised self.now).rows }
@@ -197,12 +198,12 @@ impl RevisedTable {
         mark_column(
             self.places.as_slice(),
             self.given.first.columns[column].cells.as_slice(),
-            &mut self.touched,
+            &mut self.to_visit.touched,
         );
         enter_column(
             &self.given,
             self.rows.as_slice(),
-            &mut self.touched,
+            &mut self.to_visit.touched,
             self.entered.as_mut_slice(),
             column,
         )
@@ -216,7 +217,7 @@ impl RevisedTable {
         self.entered[i]
     }
 
-    /// The least column below `among` with a negative number in the objective row. Gives up likely where a sum of
+    /// The least column below `among` with a negative number in the objective row. Likely gives up if a sum of
     /// products doesn't fit.
     pub fn entering(&self, among: usize) -> Found<usize>
         requires { among ≤ plain (shape_of_revised self.now) }
@@ -259,8 +260,8 @@ impl RevisedTable {
     }
 
     /// A pivot at a row and a column whose numbers are kept, and whose cell in the row isn't 0. `TooWide` names the
-    /// first operation that is too wide. It may also be given up: likely where what a row step makes doesn't fit and
-    /// no small common denominator is left. Both leave the table spent.
+    /// first operation that is too wide. It may also be given up, likely if the result of a row step doesn't fit and
+    /// no small common denominator is left. Either leaves the table spent.
     pub fn pivot(&mut self, row: usize, column: usize) -> Result<(), TurnRefusal>
         requires row_in { row < (shape_of_revised self.old).rows }
         requires column_in { column < plain (shape_of_revised self.old) }
@@ -280,18 +281,17 @@ impl RevisedTable {
             self.rows.as_mut_slice(),
             &mut self.pivot,
             self.entered.as_slice(),
-            &self.touched,
-            self.all_fit,
+            &self.to_visit,
             row,
             column,
         );
         let ok = done.is_ok();
-        self.all_fit = ok;
+        self.to_visit.all_fit = ok;
         mark_on(
             ok,
             self.places.as_mut_slice(),
             self.uses.as_slice(),
-            &self.touched,
+            &self.to_visit.touched,
             &mut self.open,
             self.rows[row].row.numbers.as_slice(),
         );
@@ -310,14 +310,14 @@ impl RevisedTable {
         clear_row(self.entered.as_mut_slice());
         clear_row(self.given.own.as_mut_slice());
         self.given.own_top = 0;
-        self.all_fit = false;
+        self.to_visit.all_fit = false;
         put_row(self.rows.as_mut_slice(), last, self.entered.as_slice(), 1);
         self.open.fill();
         self.least = least_negative(&self.given, &self.rows[last], &mut self.open);
     }
 
-    /// Sets the objective row to that of the factor: the row in which it is basic without its own cell, and where it
-    /// isn't basic -1 in its column alone. Gives up likely nowhere.
+    /// Sets the objective row to that of the factor: the row in which it is basic, without its own cell; if it isn't
+    /// basic, -1 in its column alone. Isn't likely to give up.
     pub fn set_factor_objective(&mut self) -> Option<()>
         requires { (shape_of_revised self.old).factors ≡ 1 }
         ensures shape { OnSome result (shape_of_revised self.new ≡ shape_of_revised self.old) }
@@ -336,7 +336,7 @@ impl RevisedTable {
         clear_row(self.given.own.as_mut_slice());
         self.given.own_top = 1;
         set_only(self.given.own.as_mut_slice(), self.contacts, -1);
-        self.all_fit = false;
+        self.to_visit.all_fit = false;
         put_row(
             self.rows.as_mut_slice(),
             last,

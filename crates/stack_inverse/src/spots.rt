@@ -43,7 +43,7 @@ struct ColumnCells {
     factor: Frac<i128>,
 }
 
-/// The cell less the factor times the pivot row's, or the step that is too wide.
+/// The cell minus the factor times the pivot row's, or the step that is too wide.
 fn reduced(c: ColumnCells) -> Result<Frac<i128>, Step>
     ensures { TellsCell result c.own c.pivot c.factor }
 {
@@ -82,7 +82,7 @@ pub fn reduced_cell(s: &RowStep, own: i128, pivot: i128) -> Option<Result<Frac<i
     }))
 }
 
-/// Whether what a row step makes of two numbers of a column fits, and its denominator. The answer no isn't pinned.
+/// Whether the result of a row step on two numbers of a column fits, and its denominator. The answer no isn't pinned.
 pub fn numbers_fit(s: &RowStep, own: i128, pivot: i128) -> bool
     ensures { result ≡ true → TellsStep None (over own s.now.under) (over pivot s.now.pivot_under)
         (over s.now.number s.now.under) }
@@ -119,7 +119,7 @@ fn step_spot(s: &RowStep, own: i128, pivot: i128) -> Option<Option<Step>>
     }
 }
 
-/// The number of row i in any column, the right side last. Gives up likely where a sum of products doesn't fit.
+/// The number of row i in any column, the right side last. Likely gives up if a sum of products doesn't fit.
 fn number_in(given: &Given, row: &TableRow, i: usize, j: usize) -> Option<i128>
     requires width { length row.now.row.numbers.items ≡ suc given.now.first.rows }
     requires column_in { j < columns_of given.now }
@@ -132,7 +132,7 @@ fn number_in(given: &Given, row: &TableRow, i: usize, j: usize) -> Option<i128>
     Some(row.row.numbers[j - count])
 }
 
-/// The first step of row i that is too wide, if there is one. Gives up likely where a number of either row doesn't fit.
+/// The first step of row i that is too wide, if there is one. Likely gives up if a number of either row doesn't fit.
 pub fn row_spot(
     given: &Given,
     row: &TableRow,

@@ -8,7 +8,7 @@ use std::alloc::{AllocError, AllocFailed};
 /// Why a problem has no table.
 #[derive(Clone, Copy, Debug, PartialEq, Eq, Drop)]
 pub enum NoTable {
-    /// The table is given up, mostly since one of its numbers doesn't fit. It says nothing of the written run.
+    /// The table is given up, mostly because one of its numbers doesn't fit. It says nothing about the written run.
     Unsettled,
     Memory,
 }

@@ -22,7 +22,7 @@ shape_of_last l = shape_of_revised l.table
 abbrev pub flips_of_last : Last → ℕ → Bool
 flips_of_last l i = get_or l.flipped.items i false
 
--- the value of the written run that it tells
+-- the value of the written run that it gives
 abbrev pub value_of_last : Last → End Fraction
 value_of_last l = end_at l.kind (table_of_revised l.table)
 
@@ -33,7 +33,7 @@ reads_column Feasible j = false
 reads_column Optimal j = false
 reads_column (Ray c) j = eqb j c
 
--- what a refusal says of the written run: that it is wide at this place, or over its budget; the others nothing
+-- what a refusal says of the written run: that it is wide at this place, or over its budget; the others say nothing
 abbrev pub tells_stop : RevisedStop → End Fraction → Type 0
 tells_stop (TooWide p) X = wide p.phase p.pivot (spot_of p) ≡ X
 tells_stop Spent X = over ≡ X

@@ -1,4 +1,4 @@
--- Where no cell stands.
+-- What stands for a cell if there is none.
 use lib.IntN.{pos}
 use Rattle.stack_algebra.specs.Fraction.{Fraction}
 use Rattle.stack_algebra.proofs.Over.{over}

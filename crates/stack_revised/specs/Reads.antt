@@ -1,4 +1,4 @@
--- What is read of a last table, row by row.
+-- What is read from a last table, row by row.
 use Rattle.std.specs.Prelude.{ℕ, ◌+◌, ◌<◌, ⊤}
 use Rattle.stack_algebra.specs.Fraction.{Fraction}
 use Rattle.stack_table.specs.Table.{Shape, plain, columns}

@@ -1,4 +1,4 @@
-//! The last table of a run, and what is read of it.
+//! The last table of a run, and what is read from it.
 
 ghost use Rattle.std.specs.Prelude.{◌≡◌, ℕ, ◌+◌, ◌<◌, length, get_or};
 ghost use Rattle.stack_table.specs.Table.{plain, columns};

@@ -8,7 +8,7 @@
 //!     Ok(end) => .., // the end of the written run at 128 bits, with its last table
 //!     Err(RevisedStop::TooWide(place)) => .., // its first number that is too wide
 //!     Err(RevisedStop::Spent) => .., // the written run is over its budget
-//!     Err(RevisedStop::Unsettled) => .., // it was given up: this says nothing, and no clause says when it comes
+//!     Err(RevisedStop::Unsettled) => .., // it was given up: this says nothing, and no clause says when it happens
 //!     Err(RevisedStop::Memory) => ..,
 //! }
 //! ```

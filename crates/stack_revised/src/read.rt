@@ -1,4 +1,4 @@
-//! What is read of a last table, row by row.
+//! What is read from a last table, row by row.
 
 /// What is read.
 #[derive(Clone, Copy)]

@@ -1,4 +1,4 @@
-//! What is read of the last table.
+//! What is read from the last table.
 
 ghost use Rattle.std.specs.Prelude.{◌≡◌};
 ghost use Rattle.stack_inverse.specs.Seen.{table_of_revised};

@@ -37,7 +37,7 @@ fn flips(alloc: Global, right: &[i128]) -> Result<Vec<bool>, RevisedStop>
     Ok(flipped)
 }
 
-/// The cell that is read in a row. Gives up likely where a number of a column doesn't fit.
+/// The cell that is read in a row. Likely gives up if a number of a column doesn't fit.
 fn cell_of(t: &RevisedTable, read: Read, i: usize) -> Option<Frac<i128>>
     requires row_in { i < (shape_of_revised t.now).rows }
     requires column_in { IsPlain (shape_of_revised t.now) read }
@@ -53,7 +53,7 @@ fn cell_of(t: &RevisedTable, read: Read, i: usize) -> Option<Frac<i128>>
     }
 }
 
-/// What is read of a table, row by row. Gives up as `cell_of` does.
+/// What is read from a table, row by row. Gives up as `cell_of` does.
 fn list_of(alloc: Global, t: &RevisedTable, read: Read) -> Result<Vec<Frac<i128>>, RevisedStop>
     requires { IsPlain (shape_of_revised t.now) read }
     ensures long { IfOk result (λ c. length c.items ≡ (shape_of_revised t.now).rows) }
@@ -70,7 +70,7 @@ fn list_of(alloc: Global, t: &RevisedTable, read: Read) -> Result<Vec<Frac<i128>
     Ok(cells)
 }
 
-/// The cells of a ray's column; nothing at another end.
+/// The cells of a ray's column; none at another end.
 fn read_column(
     alloc: Global,
     t: &RevisedTable,
@@ -83,7 +83,7 @@ fn read_column(
 {
     match kind {
         EndKind::Ray { column } => {
-            // It is a plain column of the table, always.
+            // It is always a plain column of the table.
             if t.plain() <= column {
                 return Err(RevisedStop::Unsettled);
             }
@@ -95,7 +95,7 @@ fn read_column(
     }
 }
 
-/// The end of a run with its last table. Gives up as `read_column` does, and says nothing of the written run then.
+/// The end of a run with its last table. Gives up as `read_column` does, and then says nothing about the written run.
 fn last_of(
     alloc: Global,
     table: RevisedTable,
@@ -127,7 +127,7 @@ fn last_of(
     }
 }
 
-/// Why a run over rows has no end, as a run of a problem tells it.
+/// Why a run over rows has no end, as a run of a problem says it.
 fn stopped(stop: RunStop) -> RevisedStop
     ensures { result ≡ stopped_as stop }
 {
@@ -140,10 +140,9 @@ fn stopped(stop: RunStop) -> RevisedStop
 
 /// The run of a problem within a budget of pivots: its end is that of the written run at 128 bits, with its last table.
 ///
-/// `TooWide` names the first operation of the written run that is too wide for 128 bits, and comes only where there is
-/// one. `Spent` comes only where the written run is over its budget. The run may also be given up, mostly since a
-/// number that it makes doesn't fit: no clause says when. That says nothing of the written run, and want of memory
-/// neither.
+/// `TooWide` names the first operation of the written run that is too wide for 128 bits, and comes only if there is
+/// one. `Spent` comes only if the written run is over its budget. The run may also be given up, mostly because a number
+/// that it makes doesn't fit: no clause says when. That says nothing about the written run, and neither does `Memory`.
 pub fn run_revised(alloc: Global, p: &Problem, budget: u32) -> Result<Last, RevisedStop>
     requires { IsProblem p.now }
     ensures shape { IfOk result (λ l. shape_of_last l ≡ shape_of_problem p.now) }

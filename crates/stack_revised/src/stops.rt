@@ -13,8 +13,8 @@ pub enum RevisedStop {
     TooWide(RunPlace),
     /// A pivot is due, and the budget's pivots are done.
     Spent,
-    /// The run is given up, mostly since a number that it makes doesn't fit. No clause says when, and it says nothing
-    /// of the written run.
+    /// The run is given up, mostly because a number that it makes doesn't fit. No clause says when, and it says
+    /// nothing about the written run.
     Unsettled,
     Memory,
 }

@@ -76,8 +76,9 @@ loop-i-init c =
     let rows = c.args.rows.now in
     let next = c.next_row-i.ensures in
     let passes = λ (k : ℕ) (l : k < c.next_row-i.result). passed p rows c.args.pivot.now c.args.entered.now
-    c.args.touched.now.words.items c.args.all_fit k c.args.column (omega (arith, l, next.within, c.requires.height))
-    c.requires.fitting c.requires.entered c.requires.touched c.requires.all_fit (next.none k (omega arith) l) in
+    c.args.to_visit.now.touched.words.items c.args.to_visit.now.all_fit k c.args.column
+    (omega (arith, l, next.within, c.requires.height)) c.requires.fitting c.requires.entered c.requires.touched
+    c.requires.all_fit (next.none k (omega arith) l) in
     record {
       within = next.within;
       widths = c.requires.widths;
@@ -95,7 +96,7 @@ loop-i-preserved-then-i-row c =
     let inv = c.loop-i.invariant in
     let next = c.next_row-i-then-i-row.ensures in
     let passes = λ (k : ℕ) (b : i + 1 ≤ k) (l : k < c.next_row-i-then-i-row.result). passed p first c.args.pivot.now
-    c.args.entered.now c.args.touched.now.words.items c.args.all_fit k c.args.column
+    c.args.entered.now c.args.to_visit.now.touched.words.items c.args.to_visit.now.all_fit k c.args.column
     (omega (arith, l, next.within, c.loop-i.auto.rows, c.requires.height)) c.requires.fitting c.requires.entered
     c.requires.touched c.requires.all_fit (next.none k b l) in
     record {
@@ -130,7 +131,7 @@ loop-i-preserved c =
     let inv = c.loop-i.invariant in
     let next = c.next_row-i-in-loop-i.ensures in
     let passes = λ (k : ℕ) (b : i + 1 ≤ k) (l : k < c.next_row-i-in-loop-i.result). passed p first c.args.pivot.now
-    c.args.entered.now c.args.touched.now.words.items c.args.all_fit k c.args.column
+    c.args.entered.now c.args.to_visit.now.touched.words.items c.args.to_visit.now.all_fit k c.args.column
     (omega (arith, l, next.within, c.loop-i.auto.rows, length-set rows i new, c.requires.height)) c.requires.fitting
     c.requires.entered c.requires.touched c.requires.all_fit (next.none k b l) in
     let left = left_set rows i new (inside at) (seen_at first) inv.left in

@@ -120,7 +120,7 @@ places_long c = c.mark_on.auto.places ∙ ap length c.as_mut_slice-2.ensures.val
 -- where the pivot was done, marks go on
 marked_on : (c : After-mark_on) → c.is_ok-ok.result ≡ true → AreMarkedOn c.args.self.now.places.items
     c.args.self.now.uses.items c.args.self.now.«open».words.items (after c c.args.row).numbers
-    c.args.self.now.touched.words.items c.mark_on.new.places c.mark_on.new.«open».words.items
+    c.args.self.now.to_visit.touched.words.items c.mark_on.new.places c.mark_on.new.«open».words.items
 marked_on c e =
     let rows = (with_items c.args.self.now.rows c.pivot_rows-done.new.rows).items in
     let lt : c.args.row < length rows = omega (arith, rows_long c, c.requires.row_in) in
@@ -151,10 +151,11 @@ told c =
       | inl p ↦ places_kept m s.given.first.columns.items s.given.own.items (seen_at s.rows.items) (after c) c.args.row
           c.args.column (under_positive s.rows.items)
           (under_positive (with_items s.rows c.pivot_rows-done.new.rows).items) p.1 s.places.items s.uses.items
-          c.mark_on.new.places s.«open».words.items c.mark_on.new.«open».words.items s.touched.words.items
+          c.mark_on.new.places s.«open».words.items c.mark_on.new.«open».words.items s.to_visit.touched.words.items
           s.entered.items (marked_on c p.0) s.places_long c.requires.entered.numbers c.requires.entered.touched s.told
-      | inr e ↦ full_places m (length s.touched.words.items) c.mark_on.new.places c.mark_on.new.«open».words.items
-          (after c) (c.mark_on.ensures.full e) (places_long c) (omega (arith, s.touched_long))
+      | inr e ↦ full_places m (length s.to_visit.touched.words.items) c.mark_on.new.places
+          c.mark_on.new.«open».words.items (after c) (c.mark_on.ensures.full e) (places_long c)
+          (omega (arith, s.touched_long))
     ]
 
 clean : (c : After-mark_on) → AreClean (number_in_row c.args.self.now.given
@@ -168,10 +169,10 @@ clean c =
           c.args.row c.args.column c.requires.row_in (under_positive s.rows.items)
           (under_positive (with_items s.rows c.pivot_rows-done.new.rows).items) s.given.first.first.rising p.1
           s.places.items s.uses.items c.mark_on.new.places s.«open».words.items c.mark_on.new.«open».words.items
-          s.touched.words.items (marked_on c p.0) s.uses_long s.used s.clean
-      | inr e ↦ full_columns (length s.given.first.columns.items) (length s.touched.words.items) c.mark_on.new.places
-          c.mark_on.new.«open».words.items (number_in_row s.given (after c m) m) (c.mark_on.ensures.full e)
-          (omega (arith, c.mark_on.ensures.marks, s.open_long))
+          s.to_visit.touched.words.items (marked_on c p.0) s.uses_long s.used s.clean
+      | inr e ↦ full_columns (length s.given.first.columns.items) (length s.to_visit.touched.words.items)
+          c.mark_on.new.places c.mark_on.new.«open».words.items (number_in_row s.given (after c m) m)
+          (c.mark_on.ensures.full e) (omega (arith, c.mark_on.ensures.marks, s.open_long))
     ]
 
 pub least_negative-self-requires-clause-clean : goal.least_negative-self-requires-clause-clean
