@@ -59,6 +59,7 @@ from masonry.questions.results import Collapses, Stands, Unlimited, upper
 from masonry.questions.slides import Pressing, Slide
 from masonry.statics import Structure
 from masonry.time_limit import Spent
+from masonry.units import unit_of
 
 SAME = 0.995  # what counts as no less, of what is carried as drawn
 SHOWN = 6  # so many places of a kind in the drawing are listed
@@ -71,7 +72,7 @@ def asked(words: Sequence[str]) -> Wanted:
     name, *rest = words
     wanted = Wanted(name, Path(f"{Path(name).stem}-assessed"))
     if rest and rest[0] not in (*VALUES, *ALONE):
-        wanted = replace(wanted, unit=decimal(rest.pop(0), "UNIT", Fraction(1, 10**12), 10**12))
+        wanted = replace(wanted, unit=unit_of(rest.pop(0), "UNIT"))
     seen = set[str]()
     while rest:
         word = rest.pop(0)

@@ -31,11 +31,11 @@ from fractions import Fraction
 from math import ceil, sqrt
 
 from masonry.console import Words, ran
-from masonry.model import Bearing, Block, Model, Point, bearings_of, read, text_of, twice_area
+from masonry.model import Bearing, Block, Model, Point, bearings_of, read, sum_of, text_of, twice_area
 from masonry.numbers import decimal, number
 from masonry.open_faces import cross, edges, minus
 from masonry.program import answer
-from masonry.units import Scale, scale_of
+from masonry.units import Scale, scale_of, unit_of
 
 BESIDE = 2  # a load that is nearer to its block may lie beside it since its place was rounded
 
@@ -134,7 +134,7 @@ def sums(model: Model, unit: Fraction) -> Iterable[str]:
         yield f"material {material.name} {len(areas)} {area} {number(weight * unit, 0)}"
     for kind in "dead", "live":
         loads = [load for load in model.loads if load.kind == kind]
-        across, up = (number(sum(load.force[axis] for load in loads) * unit, 0) for axis in (0, 1))
+        across, up = (number(part * unit, 0) for part in sum_of(loads))
         yield f"load {kind} {len(loads)} {across} {up}"
     if model.sway and any(model.sway):
         yield f"load sway 1 {number(weights * model.sway[0] * unit, 0)} {number(weights * model.sway[1] * unit, 0)}"
@@ -172,7 +172,7 @@ def main(words: list[str]) -> int:
         raise Words("the words are MODEL [NEAR [UNIT]]")
     name, near, unit = [*words, *["1"] * (3 - len(words))]
     distance = decimal(near, "NEAR", 0, 10**6)
-    force, in_kn = decimal(unit, "UNIT", Fraction(1, 10**12), 10**12), len(words) == 3
+    force, in_kn = unit_of(unit, "UNIT"), len(words) == 3
     model, scale = read(name), scale_of(text_of(name))
     lines = [*multiplied(scale, in_kn), *off_blocks(model, BESIDE * scale.lengths),
              *looked(model, answer("contacts", name), distance, force / scale.forces if in_kn else force)]

@@ -60,7 +60,7 @@ from masonry.model import Bearing, Block, Model, bearings_of, put, read, text_of
 from masonry.motion import Motion, Move, joints_of
 from masonry.numbers import decimal, number, with_decimal
 from masonry.program import answer
-from masonry.units import Scale, Units, scale_of
+from masonry.units import Scale, Units, given_of, scale_of
 
 PART = "0.000001"
 Force = tuple[Fraction, Fraction]
@@ -163,18 +163,13 @@ def lines_of_range(name: str, model: Model, certificate: str, said: str, asked: 
 
 def units_of(words: list[str], scale: Scale) -> tuple[Units, list[str]]:
     """The units that these words ask for, and the lines that say so."""
-    given: dict[str, Fraction] = {}
-    for word, value in zip(words[::2], [*words[1::2], ""]):
-        if word not in ("kN", "m") or word in given:
-            raise Words(f"after MODEL CERT [PART] come `kN FORCE` and `m LENGTH`, and not {shown(word)}")
-        given[word] = decimal(value, f"the value after {word}", Fraction(1, 10**12), 10**12)
-    force, length = given.get("kN", Fraction(0)) / scale.forces, given.get("m", Fraction(0)) / scale.lengths
-    lines = [f"{called} in {unit}" for unit, called in (("kN", "forces"), ("m", "lengths")) if unit in given]
-    if "kN" not in given and scale.forces != 1:
+    given = given_of(words, "MODEL CERT [PART]")
+    lines = given.lines()
+    if given.force is None and scale.forces != 1:
         lines.append(f"multiplied forces {scale.forces}")
-    if "m" not in given and scale.lengths != 1:
+    if given.length is None and scale.lengths != 1:
         lines.append(f"multiplied lengths {scale.lengths}")
-    return Units(force or Fraction(1), length or Fraction(1)), lines
+    return given.units(scale), lines
 
 
 def main(words: list[str]) -> int:

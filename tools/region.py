@@ -57,15 +57,14 @@ from masonry import console
 from masonry.console import Progress, Words
 from masonry.lp.programs import Exact
 from masonry.model import text_of
-from masonry.numbers import decimal, ratio
+from masonry.numbers import ratio
 from masonry.questions import pairs
 from masonry.questions.pairs import Direction, Half, Region, lowest, region_of
-from masonry.units import scale_of
+from masonry.units import scale_of, unit_of
 
 MOSTS = 10**3, 10**6, 10**9  # the greatest number of a direction: at first, and where that comes no nearer
 LINES = 1000  # the most lines of a file of directions
 NEAR, FAR = Fraction(999, 1000), 1000
-LEAST = Fraction(1, 10**20)  # what a force of 1 is at least, in kN
 
 Vector = tuple[Exact, Exact]
 
@@ -294,7 +293,7 @@ def sizes_of(words: list[str], force: Fraction) -> Sizes:
 def asked(words: list[str]) -> int:
     options, force = words[4:], None
     if len(words) > 5 and words[4] == "kN":
-        options, force = words[6:], decimal(words[5], "FORCE", LEAST)
+        options, force = words[6:], unit_of(words[5], "FORCE")
     if len(words) < 4 or options not in ([], ["csv"], ["all"], ["all", "csv"]):
         raise Words("the form is MODEL I J DIRS [kN FORCE] [all] [csv], without m LENGTH: a region has no lengths")
     with Progress("region") as progress:

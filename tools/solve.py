@@ -11,6 +11,8 @@
     tools/solve.py MODEL slides [N D] [all]
     tools/solve.py MODEL friction CERT [N D]
 
+and behind the words of load, range, between and slides maybe `kN FORCE`.
+
 Nothing here is proved: only the `accepted` of `check` counts, and nothing is announced that `check` didn't accept.
 `stand` and `load` ask what the program's own forms ask, and write the certificate to CERT. On standard output stands
 its form, for `greatest` the factor, and `accepted`.
@@ -58,6 +60,10 @@ Coefficients that a file can't hold are rounded down where it stands, and up whe
 it stands without any. It is an answer for the model, in which a joint that slides also lifts: a real structure may need
 more.
 
+With `kN FORCE`, what a force of 1 of the structure is in kN, decimals are in kN, as for tools/read.py: the force of a
+tie or a prop; N and T of joints; and instead of a factor what all live loads come to at it, unless a sway acts with
+them. Fractions stay what they are. The first line says so. Nothing that is printed is a length, so there is no `m`.
+
 The status is 0 where all that was asked is accepted, also for a collapse; 2 for wrong words, 9 without a live load, 70
 where something wasn't found, with the reason on standard error; or that of `contacts`, which refuses the model.
 
@@ -81,7 +87,8 @@ from masonry.model import Model
 from masonry.numbers import fraction, whole
 from masonry.questions import between, frictions, ranges, results, slides, stages
 from masonry.questions.case import Case
-from masonry.units import scale_of
+from masonry.questions.voice import Voice
+from masonry.units import Given, Size, factor_in, scale_of, with_units
 
 NO_LIVE = Answer(9, "", "no live load")
 MICRO = 2  # how far two shares may be apart, in millionths, if no number is given
@@ -95,29 +102,33 @@ def stand(name: str, words: list[str], progress: Progress) -> int:
 
 
 def load(name: str, words: list[str], progress: Progress) -> int:
-    case = live_case(name, counted(words, "load CERT [MICRO]", 1, 2), progress)
+    case = live_case(name, words, "load CERT [MICRO] [kN FORCE]", progress)
     return 0 if results.is_whole(case.load()) else 70
 
 
 def wide_range(name: str, words: list[str], progress: Progress) -> int:
-    case = live_case(name, counted(words, "range CERT [MICRO]", 1, 2), progress)
+    case = live_case(name, words, "range CERT [MICRO] [kN FORCE]", progress)
     return 0 if ranges.ranged(case) else 70
 
 
 def wide_between(name: str, words: list[str], progress: Progress) -> int:
+    words, given = with_units(words, 1, lengths=False)
     cert, rest = words[0] if words else "", words[1:]
     kind = rest[0] if rest else ""
     if len(rest) not in {"": (0,), "tie": (7, 9), "prop": (6, 8)}.get(kind, ()):
-        raise Words("the form is MODEL between CERT [tie A X Y B U V [N D]] or [prop A X Y U V [N D]]")
+        raise Words("the form is MODEL between CERT [tie A X Y B U V [N D]] or [prop A X Y U V [N D]] [kN FORCE]")
     accepted(name)
-    model = models.read(name)
+    model, scale = models.read(name), scale_of(models.text_of(name))
     if kind:
         question = tie_or_prop(model, kind, rest[1:])
     elif model.has_live():
-        question = between.Question(model, between.FACTOR)
+        question = between.Question(model)
     else:
         raise Ended(NO_LIVE)
-    question = replace(question, scale=scale_of(models.text_of(name)).times(question.scale))
+    if given.force:
+        question = question.in_kn(given.force / scale.forces)
+        print(*lines_of(given, None if kind else model), sep="\n", flush=True)
+    question = replace(question, scale=scale.times(question.scale))
     return 0 if between.between(question, cert, progress) else 70
 
 
@@ -143,24 +154,42 @@ def wide_stages(name: str, words: list[str], progress: Progress) -> int:
 
 
 def wide_slides(name: str, words: list[str], progress: Progress) -> int:
+    words, given = with_units(words, 0, lengths=False)
     every = words[-1:] == ["all"]
-    words = counted(words[:-1] if every else words, "slides [N D] [all]", 0, 2)
+    words = counted(words[:-1] if every else words, "slides [N D] [all] [kN FORCE]", 0, 2)
     wanted = fraction(words[0], words[1]) if words else None
     if wanted is not None and wanted < 0:
         raise Words("N must be at least 0")
     accepted(name)
-    slides.slides(name, wanted, every, progress)
+    said = slides.Said()
+    if given.force:
+        model = models.read(name)
+        unit = given.force / scale_of(models.text_of(name)).forces
+        said = slides.Said(float(unit), factor_in(unit, model) if model.live_loads() else Size())
+        print(*lines_of(given, model), sep="\n", flush=True)
+    slides.slides(name, wanted, every, progress, said)
     return 0
 
 
-def live_case(name: str, words: list[str], progress: Progress) -> Case:
-    """A model with a live load, and where its certificate goes."""
+def live_case(name: str, words: list[str], form: str, progress: Progress) -> Case:
+    """A model with a live load, where its certificate goes, and in which unit its factors are told."""
+    words, given = with_units(words, 1, lengths=False)
+    counted(words, form, 1, 2)
     micro = whole(words[1], "MICRO", 1, 10**6) if words[1:] else MICRO
     accepted(name)
     case = Case(name, words[0], progress, part=Fraction(micro, 2 * 10**6))
     if not case.model.has_live():
         raise Ended(NO_LIVE)
+    if given.force:
+        case.voice = Voice(factor_in(given.force / scale_of(models.text_of(name)).forces, case.model))
+        print(*lines_of(given, case.model), sep="\n", flush=True)
     return case
+
+
+def lines_of(given: Given, model: Model | None) -> list[str]:
+    """The first lines, if what is printed is in kN: of factors of this model, if they are printed."""
+    shares = ["factors as they are, since a sway acts with the live loads"]
+    return given.lines() + (shares if model and any(model.sway or ()) else [])
 
 
 def counted(words: list[str], form: str, *counts: int) -> list[str]:

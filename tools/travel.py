@@ -1,8 +1,8 @@
 #!/usr/bin/env python3
 """Moves live loads along a structure: what it carries at each place where that can be least, and the least of all.
 
-    tools/travel.py MODEL N [inset D] [X ..]
-    tools/travel.py MODEL N,M[,..] [inset D] [X ..]
+    tools/travel.py MODEL N [inset D] [X ..] [kN FORCE] [m LENGTH]
+    tools/travel.py MODEL N,M[,..] [inset D] [X ..] [kN FORCE] [m LENGTH]
 
 Nothing here is proved, but each factor has a certificate that `check` accepts. N is the number of a live load in the
 file. With commas these loads move together, as axles do, at the distances that they have in the file. At each X the
@@ -31,10 +31,14 @@ all loads on the structure, if that is another one. The last line is the least o
 A is carried at all places, and B isn't at some. If you give places, it is the least `of the given places`: elsewhere
 the structure may carry less. Where a place has no answer, the least is `withheld`, and the status is 70; where the dead
 loads collapse, it is 1.
+
+With `kN FORCE` decimals are in kN, as for tools/read.py: what the loads N, M come to at the factor, all of them, also
+those that have left the structure. With `m LENGTH` places are in metres. The first lines say so. Numbers X among the
+words stay in units of the grid.
 """
 import sys
 import tempfile
-from collections.abc import Iterator, Sequence
+from collections.abc import Callable, Iterator, Sequence
 from dataclasses import dataclass, replace
 from fractions import Fraction
 from math import ceil, floor
@@ -51,6 +55,7 @@ from masonry.questions.case import Case, Known
 from masonry.questions.results import Collapses, Loaded, Unlimited
 from masonry.questions.voice import Silent
 from masonry.statics import NotFound
+from masonry.units import Given, Scale, Size, Units, scale_of, size_of, with_units
 
 HALF = Fraction(1, 2)  # corners have whole coordinates, so nothing changes within half a unit beside one
 
@@ -77,8 +82,9 @@ class Seat:
     x: int
     block: str | None
 
-    def said(self) -> str:
-        return f"at {self.x} " + ("off" if self.block is None else f"on {self.block}")
+    def said(self, units: Units = Units()) -> str:
+        at = self.x if units.length == 1 else units.long(self.x)
+        return f"at {at} " + ("off" if self.block is None else f"on {self.block}")
 
 
 def seat(model: Model, x: int, side: Fraction) -> Seat:
@@ -149,14 +155,21 @@ class Group:
 
 
 @dataclass(frozen=True)
+class Told:
+    """In which units it is told where the loads are and what is carried: what a factor of 1 is in decimals."""
+    units: Units = Units()
+    size: Size = Size()
+
+
+@dataclass(frozen=True)
 class Place:
     """Where the loads are, and what is carried there; None where that wasn't found."""
     seats: tuple[Seat, ...]
     found: Loaded | None
 
-    def said(self) -> str:
-        where = " ".join(one.said() for one in self.seats)
-        return f"{where} {'no answer' if self.found is None else carries(self.found)}"
+    def said(self, told: Told = Told()) -> str:
+        where = " ".join(one.said(told.units) for one in self.seats)
+        return f"{where} {'no answer' if self.found is None else carries(self.found, told.size)}"
 
     def all_on(self) -> bool:
         return all(one.block for one in self.seats)
@@ -168,13 +181,13 @@ class Place:
         return self.found is not None and None not in (results.lower(self.found), results.upper(self.found))
 
 
-def number(value: Fraction, rounded: str = "") -> str:
-    """A fraction and six digits of it, rounded down or up where that is asked."""
-    ways = {"carried": floor, "beyond": ceil}
-    return f"{ratio(value)} = {nine_digits(value, ways[rounded]) if rounded else numbers.number(value, 0)}"
+def number(factor: Fraction, size: Size, rounded: str = "") -> str:
+    """A fraction, and six digits of so many times it, or nine, rounded down or up where that is asked."""
+    ways, value = {"carried": floor, "beyond": ceil}, size.of(factor)
+    return f"{ratio(factor)} = {nine_digits(value, ways[rounded]) if rounded else numbers.number(value, 0)}"
 
 
-def carries(found: Loaded) -> str:
+def carries(found: Loaded, size: Size = Size()) -> str:
     """What is carried, in words."""
     if isinstance(found, Unlimited):
         return "unlimited"
@@ -182,8 +195,8 @@ def carries(found: Loaded) -> str:
         return "collapses"
     low, high = results.lower(found), results.upper(found)
     if low is not None and low == high:
-        return number(low)
-    parts = [f"{word} {number(value, word)}" for word, value in (("carried", low), ("beyond", high))
+        return number(low, size)
+    parts = [f"{word} {number(value, size, word)}" for word, value in (("carried", low), ("beyond", high))
              if value is not None]
     return " ".join(parts) or "no answer"
 
@@ -216,7 +229,7 @@ def asked_at(group: Group, seats: tuple[Seat, ...], progress: Progress, known: K
     return Place(seats, found)
 
 
-def ends_of(places: Sequence[Place], of: str) -> Iterator[str]:
+def ends_of(places: Sequence[Place], of: str, told: Told) -> Iterator[str]:
     """The last lines: the least of these places, if each has an answer. If some were given, `of` says so."""
     unanswered = sum(not one.settled() for one in places)
     if any(isinstance(one.found, Collapses) for one in places):
@@ -225,15 +238,15 @@ def ends_of(places: Sequence[Place], of: str) -> Iterator[str]:
         yield f"least withheld: {unanswered} of {len(places)} places have no answer"
     else:
         all_on = [one for one in places if one.all_on()]
-        lines = [said_least(word + of, some) for word, some in (("with all on ", all_on), ("", places)) if some]
+        lines = [said_least(word + of, some, told) for word, some in (("with all on ", all_on), ("", places)) if some]
         if len(lines) == 2 and lines[0].removeprefix("least with all on ") == lines[1].removeprefix("least "):
             lines = lines[1:]
         yield from lines
 
 
-def said_least(word: str, places: Sequence[Place]) -> str:
+def said_least(word: str, places: Sequence[Place], told: Told) -> str:
     place = least(places)
-    return f"least {word}{'unlimited' if place is None else place.said()}"
+    return f"least {word}{'unlimited' if place is None else place.said(told)}"
 
 
 def group_of(name: str, numbers: Sequence[int], shorter: Fraction | None) -> tuple[Group, str]:
@@ -251,19 +264,30 @@ def group_of(name: str, numbers: Sequence[int], shorter: Fraction | None) -> tup
 
 
 def travel(words: list[str]) -> int:
+    words, given_units = with_units(words, 2)
     is_inset = words[2:3] == ["inset"]
     if len(words) < (4 if is_inset else 2):
-        raise Words("the form is MODEL N [inset D] [X ..]")
+        raise Words("the form is MODEL N [inset D] [X ..] [kN FORCE] [m LENGTH]")
     loads = [whole(word, "N") for word in words[1].split(",")]
     shorter = decimal(words[3], "D", Fraction(1, 10**6), models.COORDINATE) if is_inset else None
     given = [whole(word, "X", -models.COORDINATE, models.COORDINATE) for word in words[4 if is_inset else 2:]]
     with Progress("travel") as progress:
         group, table = group_of(words[0], loads, shorter)
         known = Known(table, tried={of: Tried() for of in ("ray", "greatest", "carried")})
-        return asked_along(group, given, progress, known)
+        told = told_of(group, given_units, scale_of(models.text_of(words[0])))
+        for line in given_units.lines():
+            print(line)
+        return asked_along(group, given, told, lambda seats: asked_at(group, seats, progress, known))
 
 
-def asked_along(group: Group, given: Sequence[int], progress: Progress, known: Known) -> int:
+def told_of(group: Group, given: Given, scale: Scale) -> Told:
+    """In which units the loads of a group are told, of which the words say these."""
+    units = given.units(scale)
+    loads = [group.model.loads[number] for number in group.numbers]
+    return Told(units, size_of(loads, "the loads that move", units.force) if given.force else Size())
+
+
+def asked_along(group: Group, given: Sequence[int], told: Told, asked: Callable[[tuple[Seat, ...]], Place]) -> int:
     """Asks at the places that are given, or else at all, and prints what is found. Gives the status."""
     seats = [one for x in given or group.places() for one in group.seats(x)
              if given or any(where.block for where in one)]
@@ -272,13 +296,13 @@ def asked_along(group: Group, given: Sequence[int], progress: Progress, known: K
     places: list[Place] = []
     for one in seats:
         if not any(where.block for where in one):
-            print(*(where.said() for where in one))
+            print(*(where.said(told.units) for where in one))
             continue
-        places.append(asked_at(group, one, progress, known))
-        print(places[-1].said(), flush=True)
+        places.append(asked(one))
+        print(places[-1].said(told), flush=True)
         if isinstance(places[-1].found, Collapses):
             break
-    print(*ends_of(places, "of the given places " if given else ""), sep="\n")
+    print(*ends_of(places, "of the given places " if given else "", told), sep="\n")
     if any(isinstance(one.found, Collapses) for one in places):
         return 1
     return 0 if all(one.settled() for one in places) else 70

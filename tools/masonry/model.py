@@ -313,6 +313,12 @@ def bearings_of(table: str) -> list[Bearing]:
 # Loads
 
 
+def sum_of(loads: Iterable[Load]) -> tuple[int, int]:
+    """What loads come to, to the right and upwards."""
+    forces = [load.force for load in loads]
+    return sum(force[0] for force in forces), sum(force[1] for force in forces)
+
+
 def twice_area(corners: Sequence[Point]) -> int:
     """Twice the area of an outline, below 0 where it runs clockwise."""
     return sum(ax * by - ay * bx for (ax, ay), (bx, by) in zip(corners, [*corners[1:], corners[0]]))

@@ -10,7 +10,7 @@ from fractions import Fraction
 from math import floor
 
 from masonry.console import Refused
-from masonry.model import Block, FORCE, LOADS, Load, Model, Point, WEIGHT, heavier, twice_area
+from masonry.model import Block, FORCE, LOADS, Load, Model, Point, WEIGHT, heavier, sum_of, twice_area
 from masonry.numbers import number
 from masonry.units import Scale
 
@@ -215,5 +215,5 @@ def with_loads(model: Model, laid: Laid) -> tuple[Model, Scale, list[str]]:
 
 def total(loads: Sequence[Load], kind: str, times: int) -> tuple[Fraction, Fraction]:
     """The sum of the loads of a kind as they are written, in the unit of force of the structure."""
-    forces = [load.force for load in loads if load.kind == kind]
-    return Fraction(sum(force[0] for force in forces), times), Fraction(sum(force[1] for force in forces), times)
+    across_, up = sum_of(load for load in loads if load.kind == kind)
+    return Fraction(across_, times), Fraction(up, times)

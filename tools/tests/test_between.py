@@ -14,7 +14,9 @@ from pathlib import Path
 from helpers import Asked, at_random, example, needs_esolver as setUpModule, post
 
 import draw
-from masonry import model as models, program
+import solve
+import variant
+from masonry import model as models, numbers, program
 from masonry.lp import linear
 from masonry.model import Load, Model
 from reference_lp import Lacks
@@ -55,6 +57,29 @@ class Ends(Asked):
         # Without the sway it draws 10*1/5 at most, and pushes with 10*1/7.
         self.assertEqual(self.solved(swaying, "between", self.cert, *tie)[-1],
                          "between -10/7*sqrt(2) = -2.02030509 and 2/1*sqrt(2) = 2.82842712")
+
+    def test_forces_in_kn(self) -> None:
+        """The corbel's prop is 16*1/4 at least, 16*4/7 at most: of 0.25 kN each. In a share of the model, of which all
+        forces are multiplied, these are the same kN, and so is a tie's length times the square root of 2."""
+        corbel = example("walls/corbel-without-a-tail")
+        prop = "prop", "corbel", "4", "0", "0", "1", "kN", "0.25"
+        wanted = ["forces in kN", "greatest 64/7 = 2.28571429 accepted", "least 4/1 = 1 accepted",
+                  "between 4/1 = 1 and 64/7 = 2.28571429"]
+        self.assertEqual(self.solved(corbel, "between", self.cert, *prop), wanted)
+        swaying, tie = post([], [1, 0], 5), ("tie", "post", "0", "5", "ground", "-5", "0")
+        self.assertEqual(self.solved(swaying, "between", self.cert, *tie, "7", "10", "kN", "2")[-1],
+                         f"between 15/14*sqrt(2) = {2 * 15 / 14 * 2**0.5:.9g} and 11/2*sqrt(2) = {11 * 2**0.5:.9g}")
+        share = variant.in_form("share", [self.name, "7", "10"])
+        models.put(self.name, share)
+        times = models.model_of(share).materials[0].weight
+        last = self.said(solve.main, self.name, "between", self.cert, *tie, "kN", "2")[-1]
+        self.assertEqual(last.split(" = ")[1].split()[0], f"{2 * 15 / 14 * 2**0.5:.9g}")
+        self.assertEqual(last.split()[1], f"{numbers.ratio(Fraction(15 * times, 14))}*sqrt(2)")
+        # A push of 3 to the left at the head of the post of 8 is held by f times 3 to the right and 4 up, at (0, 4):
+        # 12f + 8 = 12 about its left foot, and 12f + 8f = 12 + 8 about the right one. The live load comes to 5 of 0.5.
+        held = post([Load("post", "dead", [2, 4], [-3, 0]), Load("post", "live", [0, 4], [3, 4])])
+        self.assertEqual(self.solved(held, "between", self.cert, "kN", "0.5")[-1],
+                         "between 1/3 = 0.83333333 and 1/1 = 2.5")
 
     def test_a_prop_that_is_no_help(self) -> None:
         # Under a sway of its whole weight the facade falls, and no prop at the side of its roof or under a pier changes

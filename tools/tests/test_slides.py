@@ -11,9 +11,11 @@ from unittest import mock
 
 from helpers import Asked, at_random, example, needs_esolver as setUpModule, post
 
+import solve
 from masonry import model as models
 from masonry.model import Block, Load, Model
 from masonry.questions import slides
+from masonry.units import Scale
 from reference_lp import Lacks
 
 
@@ -40,6 +42,22 @@ class Slides(Asked):
         self.assertIn("joint v5 v6 N 604730 T -350743 way 0", lines)
         self.assertEqual(self.joints(self.rough(example("arches/footbridge"), [29, 50]), "59", "1"), [])
         self.assertEqual(self.joints(self.rough(example("arches/footbridge"), [29, 50]), "60", "1"), ["v5 v6"])
+
+    def test_forces_in_kn(self) -> None:
+        """The load of 10000 is 1 kN, and N and T are in kN too, also in a model whose forces are doubled."""
+        arch = self.rough(example("arches/footbridge"), [29, 50])
+        models.write(self.name, replace(arch, loads=[replace(arch.loads[0], force=[0, -20000])],
+                                        materials=[replace(one, weight=2 * one.weight) for one in arch.materials]))
+        models.put(self.name, Scale(Fraction(2)).line() + models.text_of(self.name))
+        lines = self.said(solve.main, self.name, "slides", "kN", "0.0001")
+        self.assertEqual(lines[0], "forces in kN")
+        self.assertTrue(lines[2].startswith("joint v5 v6 can slide from 64415721/1086470 = 59.289 to "), lines)
+        self.assertTrue(lines[2].endswith(" = 93.6608, with N 60.473 T -35.0743"), lines)
+        # With a sway, factors stay shares of the weight: the post of 8 tips at half of it.
+        said = self.solved(post([], [1, 0]), "slides", "kN", "10")
+        self.assertEqual((said[1][:7], said[-1]), ("factors", "no joint can slide from 0 to 1/2 = 0.5"))
+        # No length is printed.
+        self.said(solve.main, self.name, "slides", "kN", "10", "m", "1", status=2)
 
     def test_a_block_that_jambs_hold(self) -> None:
         held = example("posts/post-on-a-gripped-stone")

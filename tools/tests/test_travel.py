@@ -21,6 +21,7 @@ from masonry.lp import linear
 from masonry.lp.short_certificates import Rounding, Tried, short_forces
 from masonry.model import Block, Load, Material, Model
 from masonry.questions.results import Shares
+from masonry.units import Size
 
 
 class Travels(Asked):
@@ -36,6 +37,22 @@ class Travels(Asked):
         self.assertEqual(len(lines), 15)
         self.assertEqual(self.travelled(example("arches/footbridge"), "1", "-75")[-1],
                          "least of the given places at -75 on v5 144233013/1496000 = 96.4124")
+
+    def test_kn_and_metres(self) -> None:
+        """A load of 10000 forces of 0.0002 kN comes to 2 kN, an axle group of two of them to 4, with both on it or
+        not; a length of 1 is 1 cm."""
+        lines = self.travelled(example("arches/footbridge"), "1", "-84", "kN", "0.0002", "m", "0.01")
+        self.assertEqual([*lines[:3], lines[-1]], [
+            "forces in kN", "lengths in m", "at -0.84 on v6 144233013/2589125 = 111.414",
+            "least of the given places at -0.84 on v6 144233013/2589125 = 111.414"])
+        arch = example("arches/footbridge-with-two-loads")
+        axles = replace(arch, loads=[replace(arch.loads[0], at=[-75, 90]), replace(arch.loads[1], at=[25, 90])])
+        lines = self.travelled(axles, "1,2", "-184", "m", "0.01", "kN", "0.0002")
+        self.assertEqual(lines[-1], "least of the given places at -1.84 off at -0.84 on v6 144233013/2589125 = 222.829")
+        against = replace(axles, loads=[axles.loads[0], replace(axles.loads[1], force=[0, 10000])])
+        self.travelled(against, "1,2", "kN", "1", status=70)
+        self.assertEqual(travel.carries(Shares(Fraction(2, 3), Fraction(5, 3), None, True), Size(Fraction(1), 2)),
+                         "carried 2/3 = 0.94280904 beyond 5/3 = 2.35702261")
 
     def test_a_slanting_load_on_a_ring(self) -> None:
         # It acts on the tops, so that its places are their corners alone; the least is that of the other solver with

@@ -35,6 +35,7 @@ SECONDS = 30  # that one of them may take
 FORMS = """
 solve M stand T
 solve M load T 2000
+solve A load T kN 0.5
 solve M range T
 solve M between T
 solve M between T tie post 0 4 ground -5 0 1 2
@@ -42,9 +43,11 @@ solve M between T prop post 0 4 1 0
 solve M stages T O
 solve M slides
 solve M slides 1 2
+solve A slides 1 2 all kN 0.001
 travel M 1
 travel M 1,2 -1 0 1
 travel M 1 inset 1/10 1
+travel A 1 -84 kN 0.1 m 0.01
 region M 1 2 D
 region M 1 2,sway D kN 0.5 csv
 read M C

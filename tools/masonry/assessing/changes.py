@@ -10,7 +10,7 @@ from math import gcd, hypot, sqrt
 from tempfile import TemporaryDirectory
 
 from look import square
-from masonry import program
+from masonry import model as models, program
 from masonry.console import Refused
 from masonry.inset import inset
 from masonry.model import FORCE, LOADS, WEIGHT, Bearing, Block, Load, Material, Model, Point, bearings_of, write
@@ -41,8 +41,7 @@ class Drawing:
 
     def live(self) -> float:
         """The size of what its live loads come to, in forces of the structure."""
-        across, up = (sum(load.force[axis] for load in self.model.live_loads()) for axis in (0, 1))
-        return hypot(across, up) / float(self.scale.forces)
+        return hypot(*models.sum_of(self.model.live_loads())) / float(self.scale.forces)
 
 
 Made = Callable[[Drawing], Drawing]

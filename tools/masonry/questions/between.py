@@ -6,7 +6,7 @@ range of the model that this gives is certified as `range` does it: each end has
 """
 from dataclasses import dataclass, replace
 from fractions import Fraction
-from math import floor, gcd, isqrt, sqrt
+from math import floor, gcd
 
 from masonry import console, model as models, program
 from masonry.console import Refused, Telling
@@ -19,38 +19,28 @@ from masonry.questions.case import Case
 from masonry.questions.results import Loaded, Unlimited
 from masonry.questions.voice import Plain, Silent
 from masonry.statics import Motion, NotFound, Structure, work
-from masonry.units import Scale
-
-
-@dataclass(frozen=True)
-class Unit:
-    """What a factor is multiplied by before it is said: a fraction, times the square root of a whole number."""
-    times: Fraction
-    root: int = 1
-
-    def said(self, factor: Fraction) -> str:
-        """A multiple of the unit: exactly, and in decimals."""
-        value = factor * self.times
-        if self.root == 1:
-            return f"{ratio(value)} = {nine_digits(value)}"
-        return f"{ratio(value)}*sqrt({self.root}) = {float(value) * sqrt(self.root):.9g}"
-
-
-FACTOR = Unit(Fraction(1))
-
-
-def unit(times: Fraction, squared: int) -> Unit:
-    """The unit that is a fraction times the length of a vector, of which the square is given."""
-    root = isqrt(squared)
-    return Unit(times * root) if root * root == squared else Unit(times, squared)
+from masonry.units import Scale, Size, factor_in, length_of
 
 
 @dataclass(frozen=True)
 class Question:
-    """A model whose live loads are asked about, and what its factors are said in."""
+    """A model whose live loads are asked about, by what its forces are multiplied, the force of a tie or a prop at a
+    factor of 1, if it is about one, and what a factor of 1 is in decimals, if these are in another unit."""
     model: Model
-    unit: Unit
-    scale: Scale = Scale()  # by what its forces are multiplied
+    scale: Scale = Scale()
+    force: Size | None = None
+    decimal: Size | None = None
+
+    def said(self, factor: Fraction) -> str:
+        exact = self.force or Size()
+        size = self.decimal or exact
+        decimals = nine_digits(size.of(factor)) if size.root == 1 else f"{float(size.of(factor)):.9g}"
+        return f"{ratio(factor * exact.times)}{'' if exact.root == 1 else f'*sqrt({exact.root})'} = {decimals}"
+
+    def in_kn(self, unit: Fraction) -> "Question":
+        """The same with decimals in kN, where a force of 1 is this many."""
+        return replace(self, decimal=Size(self.force.times * unit, self.force.root) if self.force
+                       else factor_in(unit, self.model))
 
 
 # What is asked
@@ -77,7 +67,7 @@ def prop(model: Model, name: str, at: models.Point, way: models.Point, share: Fr
     body(model, name, free=True)
     made, times = held(model, share)
     return Question(replace(made, loads=[*made.loads, Load(name, "live", list(at), [u, v])]),
-                    unit(Fraction(1, times), u * u + v * v), Scale(Fraction(times)))
+                    Scale(Fraction(times)), length_of(u * u + v * v, Fraction(1, times)))
 
 
 def tie(model: Model, ends: tuple[str, str], at: tuple[models.Point, models.Point], share: Fraction) -> Question:
@@ -89,8 +79,8 @@ def tie(model: Model, ends: tuple[str, str], at: tuple[models.Point, models.Poin
     made, times = held(model, share)
     pair = [Load(one.name, "live", list(point), [sign * u, sign * v])
             for one, point, sign in zip(bodies, at, (1, -1)) if not one.fixed]
-    return Question(replace(made, loads=[*made.loads, *pair]), unit(Fraction(1, times), u * u + v * v),
-                    Scale(Fraction(times)))
+    return Question(replace(made, loads=[*made.loads, *pair]), Scale(Fraction(times)),
+                    length_of(u * u + v * v, Fraction(1, times)))
 
 
 def body(model: Model, name: str, free: bool = False) -> Block:
@@ -135,14 +125,14 @@ class End:
         return self.carried if self.beyond is None else f"carried {self.carried} beyond {self.beyond}"
 
 
-def end_of(answer: Loaded, share: Fraction, sign: int, unit: Unit) -> End | None:
+def end_of(answer: Loaded, share: Fraction, sign: int, question: Question) -> End | None:
     """An end; None where it wasn't found."""
     if isinstance(answer, Unlimited):
         return End("unlimited")
     low, high = results.lower(answer), results.upper(answer)
     if low is None or high is None:
         return None
-    carried, beyond = (unit.said(share + sign * end) for end in (low, high))
+    carried, beyond = (question.said(share + sign * end) for end in (low, high))
     return End(carried, None if low == high else beyond)
 
 
@@ -181,8 +171,8 @@ def between(question: Question, cert: str, progress: Telling) -> bool:
         ranges.put(name, made, question.scale.times(Scale(Fraction(times))), note)
     case = Case(name, cert, progress, Silent())
     greatest, least = ranges.both(case, ranges.reversed_case(case), "")
-    top = end_of(greatest, share, 1, question.unit)
-    bottom = None if least is None else end_of(least, share, -1, question.unit)
+    top = end_of(greatest, share, 1, question)
+    bottom = None if least is None else end_of(least, share, -1, question)
     for word, end in ("greatest", top), ("least", bottom):
         print(f"{word} {end.said()} accepted" if end else f"{word} wasn't found", flush=True)
     if top is None or bottom is None:

@@ -132,8 +132,7 @@ class Case:
         return Unlimited() if lines[0] == "unbounded" else Collapses(motion_of(lines))
 
     def told(self, found: Greatest) -> Greatest:
-        factor = self.voice.factor(found.factor)
-        self.voice.say(f"greatest {ratio(factor)} accepted, {nine_digits(factor)}")
+        self.voice.say(f"greatest {ratio(found.factor)} accepted, {self.voice.decimals(found.factor)}")
         return found
 
     # By linear programs
@@ -201,7 +200,7 @@ class Case:
                 return found
             except (NotFound, NoAnswer, ArithmeticError) as fault:
                 self.known.misses += 1
-                about = nine_digits(self.voice.factor(top.factor))
+                about = nine_digits(top.factor)
                 self.voice.note(f"solve: no certificate of the greatest factor, about {about}: {fault}")
         return self.shares(top, dead)
 
@@ -279,8 +278,8 @@ class Case:
             try:
                 self.progress(f"a share {word}")
                 found = certified(part * (factor or 1))
-                said, down = self.voice.factor(found[0]), (word == "carried") != self.voice.turned
-                self.voice.say(f"{word} {ratio(said)} accepted, {nine_digits(said, floor if down else ceil)}")
+                decimals = self.voice.decimals(found[0], floor if word == "carried" else ceil)
+                self.voice.say(f"{word} {ratio(found[0])} accepted, {decimals}")
                 return found
             except (NotFound, NoAnswer, ArithmeticError, Refused) as fault:
                 part *= 8

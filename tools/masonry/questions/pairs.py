@@ -9,7 +9,7 @@ import tempfile
 from collections.abc import Iterable, Sequence
 from dataclasses import dataclass, field, replace
 from fractions import Fraction
-from math import gcd, hypot
+from math import gcd
 from pathlib import Path
 
 from masonry import model as models, program
@@ -21,6 +21,7 @@ from masonry.questions.case import Case
 from masonry.questions.results import Collapses, Greatest, Shares, Unlimited
 from masonry.questions.voice import Silent
 from masonry.statics import Motion, work
+from masonry.units import size_of
 
 
 YIELD, LINES = 1000, 64  # the greatest number of a direction that `yield` takes, and its most lines
@@ -82,10 +83,7 @@ class Group:
         """The size of the sum of its loads, or 1 of the sway, of which the factor is a share."""
         if self.sways:
             return 1.0
-        size = hypot(*(sum(load.force[axis] for load in self.of(model)) for axis in (0, 1)))
-        if not size:
-            raise Refused(f"the loads {self.words} come to no force, so nothing is its size")
-        return size
+        return float(size_of(self.of(model), f"the loads {self.words}").of(Fraction(1)))
 
 
 def group_of(model: Model, words: str) -> Group:

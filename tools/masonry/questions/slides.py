@@ -23,6 +23,7 @@ from masonry.questions import results, voice
 from masonry.questions.case import Case
 from masonry.questions.results import Collapses, Stands, Unlimited
 from masonry.statics import NotFound, Structure
+from masonry.units import Size
 
 
 @dataclass(frozen=True)
@@ -35,8 +36,11 @@ class Thrust:
     t: float
     way: float | None
 
-    def said(self) -> str:
-        bears = f"N {self.n:.6g} T {self.t:.6g}" if self.n or self.t else "bears nothing"
+    def bears(self, said: "Said") -> str:
+        return f"N {self.n * said.force:.6g} T {self.t * said.force:.6g}"
+
+    def said(self, said: "Said") -> str:
+        bears = self.bears(said) if self.n or self.t else "bears nothing"
         return f"joint {self.first} {self.second} {bears}" + ("" if self.way is None else f" way {self.way:.6g}")
 
 
@@ -49,16 +53,22 @@ class Slide:
     greatest: Fraction | None
     thrusts: list[Thrust]
 
-    def said(self) -> str:
+    def said(self, said: "Said") -> str:
         own = self.thrusts[self.joint]
         how = "slide" if own.n or own.t else "carry nothing, and so slide,"
-        until = "on" if self.greatest is None else f"to {number(self.greatest)}"
-        bears = f", with N {own.n:.6g} T {own.t:.6g}" if own.n or own.t else ""
-        return f"joint {own.first} {own.second} can {how} from {number(self.least)} {until}{bears}"
+        until = "on" if self.greatest is None else f"to {said.number(self.greatest)}"
+        bears = f", with {own.bears(said)}" if own.n or own.t else ""
+        return f"joint {own.first} {own.second} can {how} from {said.number(self.least)} {until}{bears}"
 
 
-def number(factor: Fraction) -> str:
-    return f"{ratio(factor)} = {numbers.number(factor, 0)}"
+@dataclass(frozen=True)
+class Said:
+    """What is said for a force of 1, and in decimals for a factor of 1."""
+    force: float = 1.0
+    factor: Size = Size()
+
+    def number(self, factor: Fraction) -> str:
+        return f"{ratio(factor)} = {numbers.number(self.factor.of(factor), 0)}"
 
 
 class Pressing:
@@ -144,11 +154,11 @@ def reach(case: Case) -> tuple[bool, Fraction | None]:
     return True, top
 
 
-def slides(name: str, wanted: Fraction | None, every: bool, progress: Telling) -> None:
+def slides(name: str, wanted: Fraction | None, every: bool, progress: Telling, said: Said = Said()) -> None:
     """Asks about a model, up to a factor, or up to its collapse load factor: until one joint is found that can slide,
     or about every joint."""
     with tempfile.TemporaryDirectory() as folder:
-        case = Case(name, str(Path(folder, "answer.cert")), progress, voice.Plain())
+        case = Case(name, str(Path(folder, "answer.cert")), progress, voice.Plain(said.factor))
         structure = case.structure
         stands, top = reach(case)
     if not stands:
@@ -158,14 +168,14 @@ def slides(name: str, wanted: Fraction | None, every: bool, progress: Telling) -
     sliding = Pressing(structure, top).slides(progress)
     found = sorted(sliding if every else islice(sliding, 1), key=lambda one: one.joint)
     for one in found:
-        print(one.said())
-    until = "at any factor from 0 on" if top is None else f"from 0 to {number(top)}"
+        print(one.said(said))
+    until = "at any factor from 0 on" if top is None else f"from 0 to {said.number(top)}"
     if not found:
         print(f"no joint can slide {until}")
         return
     first = min(found, key=lambda one: one.least)
-    print(f"forces at {number(first.least)}")
+    print(f"forces at {said.number(first.least)}")
     for thrust in first.thrusts:
-        print(thrust.said())
+        print(thrust.said(said))
     if not every:
         print("one joint is enough: the factor is an upper bound alone. Others may slide sooner: `all` asks about each")

@@ -3,13 +3,19 @@
 Nothing here is proved.
 """
 import sys
+from collections.abc import Callable
 from fractions import Fraction
+
+from masonry.numbers import nine_digits
+from masonry.units import Size
 
 
 class Voice:
-    """Announces what is accepted. A voice of another kind says another factor, or nothing at all. It is `turned` where
-    the factor that it says falls as that of the model rises."""
-    turned = False
+    """Announces what is accepted, with decimals that are so many times the factors. A voice of another kind says less,
+    or nothing at all."""
+
+    def __init__(self, size: Size = Size()) -> None:
+        self.size = size
 
     def say(self, line: str) -> None:
         print(line, flush=True)
@@ -17,9 +23,8 @@ class Voice:
     def note(self, line: str) -> None:
         print(line, file=sys.stderr, flush=True)
 
-    def factor(self, factor: Fraction) -> Fraction:
-        """What is said for a factor of the model that is asked about."""
-        return factor
+    def decimals(self, factor: Fraction, rounded: Callable[[Fraction], int] = round) -> str:
+        return nine_digits(self.size.of(factor), rounded)
 
 
 class Plain(Voice):
