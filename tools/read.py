@@ -27,6 +27,12 @@ otherwise. One line names all joints that stay closed. Then come the motions of 
 above 0; blocks that move as one body share a line with `together`. A block that doesn't turn `moves U V`. One line
 names all blocks that are still. Only the signs and ratios of a motion matter.
 
+If tools/solve.py has found two shares with CERT, which says that the dead loads stand, the lines of forces are those of
+the share that is carried, behind the line `carried N/D = DECIMAL`, in the unit of force of MODEL. Those of the motion
+are of the share that isn't, behind `beyond N/D = DECIMAL`. Both models must be those of shares of MODEL.
+
+If the first lines of MODEL say that a factor is dead, `with the dead factor N/D = DECIMAL` is the one of the drawing.
+
 For an answer of `range` the first line is `range N/D = DECIMAL to N/D = DECIMAL`. Then come the line `greatest` and
 the lines of that end, and the line `least` and the lines of the other one, whose factor is below 0.
 
@@ -51,16 +57,18 @@ import re
 import sys
 import tempfile
 from collections.abc import Iterable, Sequence
-from dataclasses import dataclass, field
+from dataclasses import dataclass, field, replace
 from fractions import Fraction
+from math import ceil, floor
 from pathlib import Path
 
 from masonry.console import Refused, Words, ran, shown
-from masonry.model import Bearing, Block, Model, bearings_of, put, read, text_of, write
+from masonry.model import Bearing, Block, Model, bearings_of, multiple, printed, put, read, text_of, write
+from masonry.model import share as share_of
 from masonry.motion import Motion, Move, joints_of
-from masonry.numbers import decimal, number, with_decimal
+from masonry.numbers import decimal, nine_digits, number, ratio, with_decimal
 from masonry.program import answer
-from masonry.units import Scale, Units, given_of, scale_of
+from masonry.units import Dead, Scale, Units, dead_of, given_of, scale_of
 
 PART = "0.000001"
 Force = tuple[Fraction, Fraction]
@@ -77,9 +85,11 @@ class Table:
 
 @dataclass(frozen=True)
 class Asked:
-    """How a certificate is to be read: which part of the greatest movement counts as none, and in which units."""
+    """How a certificate is to be read: which part of the greatest movement counts as none, in which units, and which
+    factor of a drawing is dead in the model."""
     part: float
     units: Units
+    dead: Dead = Dead()
 
 
 def table_of(model: str | Path, certificate: str | Path) -> Table:
@@ -116,15 +126,76 @@ def thrust(bearings: Sequence[Bearing], forces: Sequence[Force], units: Units) -
 
 def lines_of(table: Table, blocks: Sequence[Block], asked: Asked, sign: int = 1) -> Iterable[str]:
     """The lines of a certificate. In the reversed model the sign of the factor is -1."""
-    joints = joints_of(table.bearings)
     if table.factor is not None:
         yield f"factor {with_decimal(sign * table.factor)}"
+        if asked.dead.factor and asked.dead.sign:
+            yield f"with the dead factor {with_decimal(asked.dead.of(sign * table.factor))}"
+    yield from thrusts(table, asked.units)
+    yield from moving(table, blocks, asked)
+
+
+def thrusts(table: Table, units: Units) -> Iterable[str]:
+    """The lines of the forces."""
+    joints = joints_of(table.bearings)
     for word, forces in table.forces.items():
         for (first, second), indices in joints.items():
-            bears = thrust([table.bearings[k] for k in indices], [forces[k] for k in indices], asked.units)
+            bears = thrust([table.bearings[k] for k in indices], [forces[k] for k in indices], units)
             yield f"{word} {first} {second} {bears}"
+
+
+def moving(table: Table, blocks: Sequence[Block], asked: Asked) -> Iterable[str]:
+    """The lines of the motion."""
     if table.moves:
         yield from Motion(table.bearings, table.moves, blocks, asked.part, asked.units).lines()
+
+
+# Two shares
+
+
+@dataclass(frozen=True)
+class Share:
+    """The model of a share, its certificate, the share, and by what its forces are multiplied."""
+    model: str
+    certificate: str
+    share: Fraction
+    times: int
+
+
+def share_beside(word: str, model: Model, dead: Dead, certificate: str) -> Share | None:
+    """The share that tools/solve.py has written beside a certificate of a model, in which `dead` is; None if there is
+    none, or if it is one of another model."""
+    stem = f"{certificate.removesuffix('.cert')}-{word}"
+    try:
+        text = text_of(stem + ".toml")
+        text_of(stem + ".cert")
+        found = dead_of(text)
+        share = (found.factor - dead.factor) * dead.sign
+        made = share_of(model, share.numerator, share.denominator)
+    except Refused:
+        return None
+    if found.sign or not text.endswith("\n" + printed(made)):
+        return None
+    return Share(stem + ".toml", stem + ".cert", share, multiple(model, made, share.denominator))
+
+
+def shares_beside(model: Model, dead: Dead, certificate: str) -> list[Share]:
+    """The share that is carried and the one that isn't, if a certificate only says that the dead loads stand, and both
+    have been found with it; or none."""
+    if not model.has_live() or not text_of(certificate).startswith("stands\n"):
+        return []
+    found = [share_beside(word, model, dead, certificate) for word in ("carried", "beyond")]
+    return [one for one in found if one] if None not in found else []
+
+
+def lines_of_shares(shares: Sequence[Share], blocks: Sequence[Block], asked: Asked) -> Iterable[str]:
+    """The forces of the share that is carried, in the unit of force of the model itself, and the motion of the other
+    one."""
+    carried, beyond = shares
+    forces, motion = (table_of(one.model, one.certificate) for one in shares)
+    yield f"carried {ratio(carried.share)} = {nine_digits(carried.share, floor)}"
+    yield from thrusts(forces, replace(asked.units, force=asked.units.force / carried.times))
+    yield f"beyond {ratio(beyond.share)} = {nine_digits(beyond.share, ceil)}"
+    yield from moving(motion, blocks, asked)
 
 
 def range_of(name: str) -> str | None:
@@ -182,11 +253,13 @@ def main(words: list[str]) -> int:
         raise Words(f"PART must be less than 1, and is {shown(given[0])}")
     text = text_of(name)
     units, lines = units_of(rest[len(given):], scale_of(text))
-    asked = Asked(float(part), units)
+    asked = Asked(float(part), units, dead_of(text))
     if said := range_of(certificate):
         found = lines_of_range(name, read(name), certificate, said, asked)
     else:
-        found = lines_of(table_of(name, certificate), read(name).blocks, asked)
+        table, model = table_of(name, certificate), read(name)
+        shares = shares_beside(model, asked.dead, certificate)
+        found = lines_of_shares(shares, model.blocks, asked) if shares else lines_of(table, model.blocks, asked)
     for line in lines:
         print(line)
     for line in found:

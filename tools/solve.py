@@ -23,8 +23,9 @@ the live loads come close to the factor. (CERT is without `.cert` at its end in 
     CERT-carried.toml, CERT-carried.cert    `carried N/D accepted`: N/D of the live loads is carried
     CERT-beyond.toml, CERT-beyond.cert      `beyond N/D accepted`: N/D of the live loads isn't
 
-Each model is the one that `tools/variant.py share MODEL N D` prints. Both are at most MICRO millionths of the factor
-apart, 2 if no number is given and 1,000,000 at most; where nothing so near is found, wider ones are tried.
+Each model is the one that `tools/variant.py share MODEL N D` prints; `tools/read.py MODEL CERT` reads both. They are at
+most MICRO millionths of the factor apart, 2 if no number is given and 1,000,000 at most; where nothing so near is
+found, wider ones are tried.
 
 `range` settles the model and then the reversed one, CERT-reversed.toml with CERT-reversed.cert; the program's `load`
 answers where it can. What is found behind the line `reversed` is of that model.
@@ -34,7 +35,8 @@ for the force of a tie, which draws the point (X, Y) of the body A and the point
 `prop` for that of a prop, which pushes the block A at (X, Y) in the direction (U, V). Then N/D of the live loads and of
 the sway act as dead, none if not given. A force below 0 acts the other way. Both ends come from an exact linear
 program. The script makes a factor between them dead, writes that model to CERT.toml, whose first lines say which, and
-certifies its range as `range` does. It prints the ends as factors of MODEL itself, and those of a tie or a prop in
+certifies its range as `range` does. If CERT.toml is MODEL, all names begin with CERT-between in place of CERT. It
+prints the ends as factors of MODEL itself, and those of a tie or a prop in
 units of force. Where two shares are found for an end, the last line is `carried from A to B`.
 
 `stages` asks which stages of an order of building stand, each by the program where it answers. Stage K of those that it
@@ -88,7 +90,7 @@ from masonry.numbers import fraction, whole
 from masonry.questions import between, frictions, ranges, results, slides, stages
 from masonry.questions.case import Case
 from masonry.questions.voice import Voice
-from masonry.units import Given, Size, factor_in, scale_of, with_units
+from masonry.units import Given, Size, dead_of, factor_in, scale_of, with_units
 
 NO_LIVE = Answer(9, "", "no live load")
 MICRO = 2  # how far two shares may be apart, in millionths, if no number is given
@@ -122,14 +124,23 @@ def wide_between(name: str, words: list[str], progress: Progress) -> int:
     if kind:
         question = tie_or_prop(model, kind, rest[1:])
     elif model.has_live():
-        question = between.Question(model)
+        question = between.Question(model, dead=dead_of(models.text_of(name)))
     else:
         raise Ended(NO_LIVE)
     if given.force:
         question = question.in_kn(given.force / scale.forces)
         print(*lines_of(given, None if kind else model), sep="\n", flush=True)
     question = replace(question, scale=scale.times(question.scale))
+    if is_one(name, cert.removesuffix(".cert") + ".toml"):
+        cert = cert.removesuffix(".cert") + "-between.cert"
+        console.said(f"solve: {console.plain(name)} is MODEL itself: what is found is in {console.plain(cert)} and "
+                     f"{console.plain(cert.removesuffix('.cert'))}.toml", 0)
     return 0 if between.between(question, cert, progress) else 70
+
+
+def is_one(name: str, other: str) -> bool:
+    """Whether two names are those of one file."""
+    return "\0" not in other and os.path.realpath(name) == os.path.realpath(other)
 
 
 def tie_or_prop(model: Model, kind: str, words: list[str]) -> between.Question:
@@ -203,14 +214,13 @@ def counted(words: list[str], form: str, *counts: int) -> list[str]:
 WRITTEN = r"(-carried|-beyond|-reversed|-stands|-falls|-\d+)*\.(cert|toml)"
 
 
-def spared(read: Sequence[str], question: str, cert: str) -> None:
+def spared(read: Sequence[str], cert: str) -> None:
     """Refuses a CERT with which a file that is written could take the place of one that is read, or that is no regular
     file."""
     try:
         stem, place, *names = (os.path.realpath(it) for it in (cert.removesuffix(".cert"), cert, *read))
         taken = [called for called, name in zip(("MODEL", "ORDER"), names)
-                 if name == place or re.fullmatch(re.escape(stem) + WRITTEN, name)
-                 and (question == "between" or name != stem + ".toml")]
+                 if name == place or re.fullmatch(re.escape(stem) + WRITTEN, name) and name != stem + ".toml"]
     except ValueError:  # no name of a file, as is said when it is opened
         return
     if taken:
@@ -261,7 +271,7 @@ def asked(words: list[str]) -> int:
         raise Words(f"after MODEL stands one of {', '.join(QUESTIONS)}")
     name, question, *rest = words
     if question != "slides" and rest:
-        spared([name, *rest[1:]] if question == "stages" else [name], question, rest[0])
+        spared([name, *rest[1:]] if question == "stages" else [name], rest[0])
     if shutil.which("esolver") is None:
         raise Refused(MISSING)
     with Progress("solve") as progress, telling_of_old(rest[0]) if rest and question in OF_CERT else nullcontext():

@@ -20,7 +20,7 @@ the drawing itself, so that `check` and `table` can judge them:
   by M and by N. The other live loads and the sway are left out. This is the model of the direction (M, N).
 - `share`: D times the dead loads and N times the live ones, the sway with them, are dead. There are no live loads. If
   it stands, the structure carries N/D of its live loads. docs/use/formats.md says how the sway becomes forces. The
-  first line says by what all forces are multiplied; tools/read.py divides by it.
+  first line says by what all forces are multiplied; tools/read.py divides by it. The second one names the share.
 
 The others are for questions of your own:
 
@@ -35,7 +35,7 @@ The others are for questions of your own:
   what forces and lengths are multiplied. Standard error says what was taken. docs/use/scope.md says what this is for:
   stones that crush.
 
-All else stays as it is and in its order. Comments are lost, but for such a first line. MODEL must be a model that the
+All else stays as it is and in its order. Comments are lost, but for such first lines. MODEL must be a model that the
 program accepts. If the words make no sense, the exit status is 2. It is 70 if MODEL is no model, if a file can't be
 read, if a name or a number names nothing, if a limit of the program is passed, or if nothing is left of a joint.
 `inset` asks the program for the contacts; if the program refuses, its status is that of the script. Python 3.11 or
@@ -49,9 +49,9 @@ from fractions import Fraction
 from masonry.console import Refused, Words, plain, ran, shown
 from masonry.inset import inset
 from masonry.model import COORDINATE, FORCE, LOADS, Load, Model, bearings_of, multiple, printed, read, share, text_of
-from masonry.numbers import decimal, whole
+from masonry.numbers import decimal, fraction, whole
 from masonry.program import answer
-from masonry.units import Scale, scale_of
+from masonry.units import Dead, Scale, dead_of, scale_of
 
 MOST = 10**9  # a number of a share or of a direction
 
@@ -157,8 +157,17 @@ def in_form(form: str, words: list[str]) -> str:
     model, more = FORMS[form].made(name, rest)
     if not model.free_blocks():
         raise Refused("no free block is left, so there is nothing that could fall")
-    scale = scale_of(text_of(name)).times(more or Scale())
-    return (scale.line() if more or scale != Scale() else "") + printed(model)
+    text = text_of(name)
+    scale = scale_of(text).times(more or Scale())
+    first = scale.line() if more or scale != Scale() else ""
+    return first + dead_in(form, dead_of(text), rest).line() + printed(model)
+
+
+def dead_in(form: str, dead: Dead, rest: list[str]) -> Dead:
+    """Which factor of a drawing is dead in a model that is made from one in which `dead` is."""
+    if form == "share":
+        return dead.shared(fraction(rest[0], rest[1]))
+    return Dead() if form == "direction" else dead.turned() if form == "reversed" else dead
 
 
 def main(words: list[str]) -> int:

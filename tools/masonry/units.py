@@ -5,7 +5,7 @@ great as those of the structure. Its first line says so, and what reads its answ
 """
 import re
 from collections.abc import Iterable, Sequence
-from dataclasses import dataclass
+from dataclasses import dataclass, replace
 from fractions import Fraction
 from math import isqrt
 
@@ -38,6 +38,57 @@ def scale_of(text: str) -> Scale:
         return Scale(Fraction(found[1]), int(found[2])) if found else Scale()
     except (ValueError, ZeroDivisionError):
         return Scale()
+
+
+FACTOR = re.compile(r"# The factor (-?[0-9]+/[0-9]+) is dead here(, and the live loads are turned round)?:.*", re.ASCII)
+SHARE = re.compile(r"# The share (-?[0-9]+/[0-9]+) of the live loads is dead here\.", re.ASCII)
+
+
+@dataclass(frozen=True)
+class Dead:
+    """Which factor of a drawing's live loads is dead in a model, beside which the model's own factors count: with the
+    sign -1 if its live loads act the other way, and 0 if it has none."""
+    factor: Fraction = Fraction(0)
+    sign: int = 1
+
+    def of(self, factor: Fraction) -> Fraction:
+        """The drawing's factor, for one of the model."""
+        return self.factor + self.sign * factor
+
+    def also(self, factor: Fraction) -> "Dead":
+        """The same, with one more factor of the model dead."""
+        return Dead(self.of(factor), self.sign)
+
+    def turned(self) -> "Dead":
+        """What is dead in the reversed model."""
+        return replace(self, sign=-self.sign) if self.factor else self
+
+    def shared(self, share: Fraction) -> "Dead":
+        """What is dead in the model of a share of the model."""
+        return Dead(self.of(share), 0)
+
+    def line(self) -> str:
+        """The line that says so in such a model; none if nothing is dead."""
+        at = f"{self.factor.numerator}/{self.factor.denominator}"
+        if self.sign == 0:
+            return f"# The share {at} of the live loads is dead here.\n"
+        if self.sign < 0:
+            return (f"# The factor {at} is dead here, and the live loads are turned round: that minus a factor of "
+                    "this model is one of the drawing.\n")
+        return f"# The factor {at} is dead here: the factors of this model are less by that.\n" if self.factor else ""
+
+
+def dead_of(text: str) -> Dead:
+    """What the first lines of a model say."""
+    for line in text.removeprefix("\ufeff").splitlines()[:2]:
+        try:
+            if found := FACTOR.fullmatch(line):
+                return Dead(Fraction(found[1]), -1 if found[2] else 1)
+            if found := SHARE.fullmatch(line):
+                return Dead(Fraction(found[1]), 0)
+        except ZeroDivisionError:
+            break
+    return Dead()
 
 
 # Among the words

@@ -14,11 +14,13 @@ from pathlib import Path
 from helpers import Asked, at_random, example, needs_esolver as setUpModule, post
 
 import draw
+import read
 import solve
 import variant
 from masonry import model as models, numbers, program
 from masonry.lp import linear
 from masonry.model import Load, Model
+from masonry.units import Dead, dead_of
 from reference_lp import Lacks
 
 
@@ -115,6 +117,26 @@ class Ends(Asked):
         self.assertEqual(dead + Fraction(int(factor), int(scale)), Fraction(13, 8))
         self.assertEqual((shifted.sway, program.run("check", f"{self.folder}/answer.toml", self.cert).output),
                          ([1, 0], "accepted\n"))
+
+    def test_a_model_that_has_the_name_of_its_answer(self) -> None:
+        """The flyer takes a push of 4 to 8. Its model is answer.toml, which stays as it is; the answer is beside it.
+        What is read there is told as a factor of the flyer too, and in the reversed model."""
+        name = f"{self.folder}/answer.toml"
+        models.write(name, example("arches/flyer"))
+        before = Path(name).read_bytes()
+        self.assertEqual(self.said(solve.main, name, "between", self.cert)[-1], "between 4/1 = 4 and 8/1 = 8")
+        self.assertEqual((Path(name).read_bytes(), Path(self.cert).exists()), (before, False))
+        stem = f"{self.folder}/answer-between"
+        for end, factor in ("", 8), ("-reversed", 4):
+            lines = self.said(read.main, f"{stem}{end}.toml", f"{stem}{end}.cert")
+            self.assertEqual(lines[1], f"with the dead factor {factor}/1 = {factor}")
+        self.assertEqual(self.said(solve.main, f"{stem}.toml", "between", self.cert)[-1],
+                         "between -1/1 = -1 and 3/1 = 3")
+        self.assertEqual(dead_of(variant.in_form("reversed", [f"{stem}.toml"])), Dead(Fraction(5), -1))
+        self.assertEqual(dead_of(variant.in_form("share", [f"{stem}.toml", "1", "2"])), Dead(Fraction(11, 2), 0))
+        # The files of the reversed model aren't taken for MODEL's.
+        models.write(f"{self.folder}/answer-reversed.toml", example("arches/flyer"))
+        self.said(solve.main, f"{self.folder}/answer-reversed.toml", "between", self.cert, status=2)
 
     def test_no_factor_at_all(self) -> None:
         # No push along the ground holds the corbel.

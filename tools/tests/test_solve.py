@@ -17,9 +17,10 @@ from fractions import Fraction
 from pathlib import Path
 from unittest import mock
 
-from helpers import Asked, ground, needs_esolver as setUpModule
+from helpers import Asked, ground, needs_esolver as setUpModule, post
 
 import draw
+import read
 import solve
 from masonry import model as models, numbers, program
 from masonry.lp import lattice, linear, short_certificates as short
@@ -27,7 +28,7 @@ from masonry.lp.lattice import Lattice, Reduction, Step, Vector, grows, inverted
 from masonry.lp.programs import Found, Lacking, NoAnswer, Program, Row, Sign
 from masonry.model import Block, Load, Material, Model
 from masonry.questions.case import Case
-from masonry.units import Scale, scale_of
+from masonry.units import Dead, Scale, scale_of
 
 
 class Lattices(unittest.TestCase):
@@ -307,6 +308,29 @@ class Rejections(Answers):
             times = models.read(name).materials[0].weight
             self.assertGreater(times, 1)
             self.assertEqual(scale_of(name.read_text()), Scale(Fraction(3 * times), 5))
+
+    def test_two_shares_are_read_together(self) -> None:
+        """The post of 8, 2 wide and 4 high, tips at the share 1/2: at the share s the ground bears 8 upwards and 8s to
+        the left, 1 + 2s from its left end, and beyond 1/2 it turns about its right one."""
+        self.write(post([], [1, 0]))
+        path = Path(self.name)
+        path.write_text(Scale(Fraction(3)).line() + path.read_text())
+        self.assertEqual(self.rejecting("greatest", 6, "load")[0], 0)
+        lines = self.said(read.main, self.name, self.cert)
+        share = Fraction(lines[1].split()[1])
+        self.assertTrue(Fraction(499, 1000) < share < Fraction(1, 2))
+        self.assertEqual(lines[0], "multiplied forces 3")
+        self.assertIn(f"force {float(-8 * share):.6g} 8 at {float(1 + 2 * share):.6g} 0 way", lines[2])
+        self.assertEqual(lines[3].split()[0], "beyond")
+        self.assertTrue(Fraction(1, 2) < Fraction(lines[3].split()[1]) < Fraction(501, 1000))
+        self.assertTrue(lines[4].endswith(" hinge 2 0"), lines)
+        lines = self.said(read.main, self.name, self.cert, "kN", "0.5")
+        self.assertIn(f"force {float(-8 * share / 6):.6g} 1.33333 at", lines[2])
+        # Those of another model aren't read with this one.
+        changed, found = models.read(self.name), models.read(self.name).materials[0]
+        self.assertEqual(len(read.shares_beside(changed, Dead(), self.cert)), 2)
+        changed.materials[0] = replace(found, friction=[9, 10])
+        self.assertEqual(read.shares_beside(changed, Dead(), self.cert), [])
 
     def test_a_share_that_is_rejected_is_missing(self) -> None:
         self.draw("sway", "1", "0", "wall", "2", "2")

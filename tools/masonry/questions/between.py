@@ -19,17 +19,19 @@ from masonry.questions.case import Case
 from masonry.questions.results import Loaded, Unlimited
 from masonry.questions.voice import Plain, Silent
 from masonry.statics import Motion, NotFound, Structure, work
-from masonry.units import Scale, Size, factor_in, length_of
+from masonry.units import Dead, Scale, Size, factor_in, length_of
 
 
 @dataclass(frozen=True)
 class Question:
     """A model whose live loads are asked about, by what its forces are multiplied, the force of a tie or a prop at a
-    factor of 1, if it is about one, and what a factor of 1 is in decimals, if these are in another unit."""
+    factor of 1, if it is about one, what a factor of 1 is in decimals, if these are in another unit, and which factor
+    of a drawing is dead in the model."""
     model: Model
     scale: Scale = Scale()
     force: Size | None = None
     decimal: Size | None = None
+    dead: Dead = Dead()
 
     def said(self, factor: Fraction) -> str:
         exact = self.force or Size()
@@ -157,7 +159,7 @@ def between(question: Question, cert: str, progress: Telling) -> bool:
     """Asks for both ends. Says whether nothing is missing."""
     stem = cert.removesuffix(".cert")
     name = stem + ".toml"
-    ranges.put(name, question.model, question.scale)
+    ranges.put(name, question.model, question.scale, question.dead)
     structure = Structure(question.model, program.answer("contacts", name))
     progress("both ends")
     ends = linear.ends(structure)
@@ -167,8 +169,7 @@ def between(question: Question, cert: str, progress: Telling) -> bool:
     share = middle(*ends)
     if share:
         made, times = shifted(question.model, share)
-        note = f"# The factor {ratio(share)} is dead here: the factors of this model are less by that.\n"
-        ranges.put(name, made, question.scale.times(Scale(Fraction(times))), note)
+        ranges.put(name, made, question.scale.times(Scale(Fraction(times))), question.dead.also(share))
     case = Case(name, cert, progress, Silent())
     greatest, least = ranges.both(case, ranges.reversed_case(case), "")
     top = end_of(greatest, share, 1, question)

@@ -22,7 +22,7 @@ from masonry.numbers import nine_digits, ratio, simplest
 from masonry.questions.results import Collapses, Greatest, Loaded, Shares, Standing, Stands, Unlimited
 from masonry.questions.voice import Voice
 from masonry.statics import GREATEST, Motion, NotFound, Structure, work
-from masonry.units import Scale, scale_of
+from masonry.units import Scale, dead_of, scale_of
 
 MISSES = 3  # so many greatest factors without a certificate, and no more are looked for
 PART = Fraction(1, 10**6)  # how far a share may be from the factor, as a part of it
@@ -294,7 +294,8 @@ class Case:
         name = f"{self.stem}-{word}"
         model = models.share(self.model, share.numerator, share.denominator)
         scale = Scale(Fraction(models.multiple(self.model, model, share.denominator)))
-        told = scale_of(models.text_of(self.name)).times(scale).line()
+        text = models.text_of(self.name)
+        told = scale_of(text).times(scale).line() + dead_of(text).shared(share).line()
         models.put(name + ".toml", told + models.printed(model))
         self.accepted(name + ".toml", name + ".cert", lines(model))
         return share

@@ -8,7 +8,7 @@ from masonry.model import Model
 from masonry.numbers import ratio
 from masonry.questions.case import Case
 from masonry.questions.results import Collapses, Greatest, Loaded, Unlimited, is_whole, lower
-from masonry.units import Scale, scale_of
+from masonry.units import Dead, Scale, dead_of, scale_of
 
 
 def both(case: Case, other: Case, between: str) -> tuple[Loaded, Loaded | None]:
@@ -16,15 +16,16 @@ def both(case: Case, other: Case, between: str) -> tuple[Loaded, Loaded | None]:
     greatest = case.settled_load()
     if isinstance(greatest, Collapses):
         return greatest, None
-    put(other.name, case.model.turned(), scale_of(models.text_of(case.name)))
+    text = models.text_of(case.name)
+    put(other.name, case.model.turned(), scale_of(text), dead_of(text).turned())
     if between:
         case.voice.say(between)
     return greatest, other.settled_load()
 
 
-def put(name: str, model: Model, scale: Scale, note: str = "") -> None:
-    """Writes a model whose first line says by what its forces are multiplied, if they are; then comes a note."""
-    models.put(name, ("" if scale == Scale() else scale.line()) + note + models.printed(model))
+def put(name: str, model: Model, scale: Scale, dead: Dead = Dead()) -> None:
+    """Writes a model whose first lines say by what its forces are multiplied, if they are, and which factor is dead."""
+    models.put(name, ("" if scale == Scale() else scale.line()) + dead.line() + models.printed(model))
 
 
 def reversed_case(case: Case) -> Case:
