@@ -129,25 +129,29 @@ def flows_over(model: Model, part: Piece, level: float, other: float | None) -> 
 
 
 def beds(model: Model, table: str, water: Water, foot: bool) -> Iterator[tuple[Wet, Wet]]:
-    """The pressure in each bed, or in those on fixed bodies alone: on the body above it and on that below it. The head
-    falls evenly from the left face of the structure at its height to the right one."""
+    """The pressure in each bed, or in those on fixed bodies alone: on the body above it and on that below it."""
     fixed = {body.name for body in model.blocks if body.fixed}
     joints: dict[tuple[str, str], list[Bearing]] = {}
     for one in bearings_of(table):
         joints.setdefault((one.first, one.second), []).append(one)
-    for pair, ends in joints.items():
-        if len(ends) == 2 and abs(ends[0].tangent[0]) > abs(ends[0].tangent[1]) and (set(pair) & fixed or not foot):
-            yield in_bed(model, water, sorted(ends, key=lambda one: one.at[0]))
+    found = [sorted(ends, key=lambda one: one.at[0]) for ends in joints.values()
+             if len(ends) == 2 and abs(ends[0].tangent[0]) > abs(ends[0].tangent[1])]
+    lowest = [ends for ends in found if {ends[0].first, ends[0].second} & fixed]
+    for ends in lowest:
+        yield in_bed(water, ends, foot_of(lowest))
+    for ends in found:
+        if not foot and ends not in lowest:
+            yield in_bed(water, ends, face_to_face(model, ends))
 
 
-def in_bed(model: Model, water: Water, ends: Sequence[Bearing]) -> tuple[Wet, Wet]:
+def in_bed(water: Water, ends: Sequence[Bearing], faces: tuple[Place, Place]) -> tuple[Wet, Wet]:
+    """The pressure in a bed: the head falls evenly along x from the left one of two places to the right one."""
     (ax, ay), (bx, by) = ends[0].at, ends[1].at
-    low, high = face_to_face(model, Fraction(ay + by, 2))
-    left, right = water.head(True, float(ay)), water.head(False, float(by))
+    (low, foot), (high, head) = faces
+    left, right = water.head(True, float(foot)), water.head(False, float(head))
 
     def pressure(x: int, y: int) -> float:
-        head = left + (right - left) * (float(x) - low) / (high - low)
-        return water.weight * max(head - y, 0.0)
+        return water.weight * max(left + (right - left) * float((x - low) / (high - low)) - y, 0.0)
 
     upper, lower = (ends[0].second, ends[0].first) if ends[0].tangent[0] > 0 else (ends[0].first, ends[0].second)
     start, end = (Fraction(ax), Fraction(ay)), (Fraction(bx), Fraction(by))
@@ -157,11 +161,25 @@ def in_bed(model: Model, water: Water, ends: Sequence[Bearing]) -> tuple[Wet, We
             Wet(Piece(lower, start, end), both, (-along[0], -along[1])))
 
 
-def face_to_face(model: Model, y: Fraction) -> tuple[float, float]:
-    """From where to where the free blocks reach at a height."""
-    found = [across(block, 1, y) for block in model.free_blocks()
-             if min(b for _, b in block.corners) <= y <= max(b for _, b in block.corners)]
-    return float(min(low for low, _ in found)), float(max(high for _, high in found))
+def foot_of(lowest: Sequence[Sequence[Bearing]]) -> tuple[Place, Place]:
+    """Where the foot of the structure begins at the left and ends at the right, also one with steps, or one that
+    slants or curves."""
+    places = [(Fraction(end.at[0]), Fraction(end.at[1])) for ends in lowest for end in ends]
+    return min(places), max(places)
+
+
+def face_to_face(model: Model, ends: Sequence[Bearing]) -> tuple[Place, Place]:
+    """From where to where the free blocks reach along the line of a bed."""
+    (ax, ay), (bx, by) = ends[0].at, ends[1].at
+    slope = Fraction(by - ay, bx - ax)
+    found = []
+    for block in model.free_blocks():
+        for one, two in edges(block):
+            here, there = (y - ay - slope * (x - ax) for x, y in (one, two))
+            if here * there < 0 or here == 0:
+                found.append(one[0] + (two[0] - one[0]) * here / (here - there) if here else Fraction(one[0]))
+    low, high = min(found), max(found)
+    return (low, ay + slope * (low - ax)), (high, ay + slope * (high - ax))
 
 
 # The earthquake

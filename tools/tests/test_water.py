@@ -48,6 +48,25 @@ class Water(Asked):
         # It falls from h at the heel to 0 at the toe: h at 4/3 from the toe. h^3/6 + 4/3*h = 8 at 2.914.
         self.assertEqual((self.held(post([]), "2.91", "foot"), self.held(post([]), "2.92", "foot")), (True, False))
 
+    def test_a_foot_that_slants_or_has_steps(self) -> None:
+        # The foot rises by 6 on 30. Under water of 30 and 16 the pressure is 30 at its left end and 10 at its right one:
+        # it lifts with 40/2*30, and pushes to the left with 40/2*6. The faces take 30^2/2 and 10^2/2.
+        rising = Block(name="b", material="stone", corners=[[0, 0], [30, 6], [30, 40], [0, 40]])
+        slope = Block(name="ground", material="stone", fixed=True, corners=[[0, 0], [30, 6], [30, -9], [0, -9]])
+        slanting = replace(wall(rising), blocks=[slope, rising])
+        wet, said = self.wetted(slanting, "30", "right", "16", "foot")
+        self.assertEqual(said[1], "sum dead 280 600")
+        ends = {tuple(load.at): load.force[1] / wet.materials[0].weight for load in wet.loads if load.force[1]}
+        self.assertEqual(ends, {(0, 0): 70 * 5, (30, 6): 50 * 5})
+        # The same from the other side.
+        self.assertEqual(self.wetted(slanting, "16", "right", "30", "foot")[1][1], "sum dead -280 600")
+        # Two steps, of 10 and 20, the second 2 higher: under water of 20 the head is 14 between them, and 2 at the end.
+        # It lifts with 34/2*10 and with 12/2*20.
+        stepped = [Block(name="a", material="stone", corners=[[0, 0], [10, 0], [10, 30], [0, 30]]),
+                   Block(name="b", material="stone", corners=[[10, 2], [30, 2], [30, 30], [10, 30]]), ground(-10, 40),
+                   replace(box("step", 10, 0, 30, 2), fixed=True)]
+        self.assertEqual(self.wetted(replace(wall(), blocks=stepped), "20", "foot")[1][1], "sum dead 200 290")
+
     def test_water_on_both_sides(self) -> None:
         # On a smooth foot each unbalanced push slides it. With 3 on both sides none is left, and 3*2 lifts it.
         smooth = replace(post([]), materials=[Material("stone", 1, [0, 1])])
