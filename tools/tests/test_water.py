@@ -49,8 +49,8 @@ class Water(Asked):
         self.assertEqual((self.held(post([]), "2.91", "foot"), self.held(post([]), "2.92", "foot")), (True, False))
 
     def test_a_foot_that_slants_or_has_steps(self) -> None:
-        # The foot rises by 6 on 30. Under water of 30 and 16 the pressure is 30 at its left end and 10 at its right one:
-        # it lifts with 40/2*30, and pushes to the left with 40/2*6. The faces take 30^2/2 and 10^2/2.
+        # The foot rises by 6 on 30. Under water of 30 and 16 the pressure is 30 at its left end and 10 at its right
+        # one: it lifts with 40/2*30, and pushes to the left with 40/2*6. The faces take 30^2/2 and 10^2/2.
         rising = Block(name="b", material="stone", corners=[[0, 0], [30, 6], [30, 40], [0, 40]])
         slope = Block(name="ground", material="stone", fixed=True, corners=[[0, 0], [30, 6], [30, -9], [0, -9]])
         slanting = replace(wall(rising), blocks=[slope, rising])
