@@ -3,7 +3,7 @@
 Nothing here is proved. Places are exact fractions. A force is given in decimals, and becomes loads in whole numbers at
 whole points.
 """
-from collections.abc import Sequence
+from collections.abc import Callable, Sequence
 from dataclasses import dataclass, field, replace
 from enum import Enum
 from fractions import Fraction
@@ -115,9 +115,13 @@ def left_over(low: Fraction, high: Fraction, hidden: list[Span]) -> list[Span]:
     return found + ([(start, high)] if start < high else [])
 
 
-def open_pieces(model: Model, side: Side, any_slope: bool = False) -> list[Piece]:
+Passed = Callable[[Place, Place], bool]
+
+
+def open_pieces(model: Model, side: Side, any_slope: bool = False, passed: Passed = lambda *_: False) -> list[Piece]:
     """The parts of edges of free blocks that face this side, with no body beyond them; of edges that face it more than
-    the other side, if they may not have any slope."""
+    the other side, if they may not have any slope. A body hides no part of an edge of which `passed` says so: it gets
+    both ends of what the body hides."""
     axis, found = side.value, []
     for block in model.free_blocks():
         others = [body for body in model.blocks if body is not block]
@@ -126,7 +130,8 @@ def open_pieces(model: Model, side: Side, any_slope: bool = False) -> list[Piece
             if run <= 0 or not any_slope and (run < rise or run == rise and side is Side.LEFT):
                 continue
             start, end = exact(one), exact(two)
-            hidden = [span for other in others if (span := hides(other, start, end, side))]
+            hidden = [span for other in others if (span := hides(other, start, end, side))
+                      and not passed(*(between(start, end, axis, at) for at in span))]
             for low, high in left_over(end[axis], start[axis], hidden):
                 found.append(Piece(block.name, *(between(start, end, axis, at) for at in (high, low))))
     return found

@@ -61,16 +61,30 @@ def sees_left(model: Model, at: Place) -> bool:
     return not any(first < at[0] for first, _ in spans(model, at[1]))
 
 
-def open_left(model: Model) -> Iterator[tuple[Piece, Force]]:
-    """The pieces of edges that lie open to the left, with the direction in which water presses on each, times its
+def reached(model: Model, at: Place, level: Fraction) -> bool:
+    """Whether water that stands to the left reaches a place: nothing lies to the left of it; or the water comes down
+    behind what lies there, from a surface with nothing to the left of it."""
+    if sees_left(model, at):
+        return True
+    behind = max(min(last, at[0]) for first, last in spans(model, at[1]) if first < at[0])
+    return any(sees_left(model, (x, level - NEAR)) and not any(
+        low < level and high > at[1] for body in model.blocks if min(a for a, _ in body.corners) <= x
+        <= max(a for a, _ in body.corners) for low, high in [across(body, 0, x)]) for x in (at[0], behind + NEAR))
+
+
+def open_left(model: Model, level: Fraction) -> Iterator[tuple[Piece, Force]]:
+    """The pieces of edges that water to the left reaches, with the direction in which it presses on each, times its
     length: those that face left, and level ones above a step or under a ledge."""
-    for piece in open_pieces(model, Side.LEFT, True):
+    def passed(one: Place, two: Place) -> bool:
+        return reached(model, ((one[0] + two[0]) / 2 - NEAR, (one[1] + two[1]) / 2), level)
+
+    for piece in open_pieces(model, Side.LEFT, True, passed):
         (ax, ay), (bx, by) = piece.start, piece.end
         yield piece, (float(ay - by), float(bx - ax))
     for way in 1, -1:
         for piece in level_pieces(model, way):
             x, y = piece.middle()
-            if sees_left(model, (x, y + way * NEAR)):
+            if reached(model, (x, y + way * NEAR), level):
                 yield piece, (0.0, float(-way * (piece.start[0] - piece.end[0])))
 
 
@@ -97,7 +111,7 @@ def wet(model: Model, water: Water) -> Iterator[Wet]:
         if level is None:
             continue
         seen = mirrored(model, x, 1)
-        for piece, along in open_left(seen):
+        for piece, along in open_left(seen, Fraction(level)):
             part = under(piece, surface_at(level))
             if part is None:
                 continue

@@ -88,6 +88,20 @@ class Water(Asked):
         lifts = [sum(load.force[1] for load in model.loads if load.block == name) / times for name in ("foot", "head")]
         self.assertEqual(lifts, [2, 2])
 
+    def test_behind_a_bank(self) -> None:
+        # A bank 1 high stands beside the post. Water 3 deep fills the ditch between them: it pushes with 3^2/2, and
+        # with 2^2/2 if the bank lies at the post. A bank of 4 dams the water. In water of 8 a portal of 4 and 2 takes
+        # (8^2 - 2^2)/2 from both sides, and stays dry inside.
+        def beside(*blocks: Block) -> Model:
+            return wall(box("post", 0, 0, 2, 4), *(replace(block, fixed=True) for block in blocks))
+
+        ditch, at_it = beside(box("bank", -9, 0, -1, 1)), beside(box("bank", -9, 0, 0, 1))
+        self.assertEqual([self.wetted(model, "3")[1][0] for model in (ditch, at_it)],
+                         [f"water pushes right {push} left 0" for push in (4.5, 2)])
+        self.wetted(beside(box("bank", -9, 0, -1, 4)), "3", status=70)
+        portal = wall(box("left", 0, 0, 2, 4), box("right", 6, 0, 8, 4), box("lintel", 0, 4, 8, 6))
+        self.assertEqual(self.wetted(portal, "8", "right", "8")[1][0], "water pushes right 30 left 30")
+
     def test_a_face_that_leans(self) -> None:
         # A face that leans back by 1 in 4: the water also lies on it, with the weight of the triangle above, 4*1/2. The
         # same of one that overhangs lifts it.
