@@ -1,7 +1,7 @@
 #!/usr/bin/env python3
 """Makes a model of corners that were measured in metres.
 
-    tools/survey.py CORNERS GRID TOLERANCE [material NAME WEIGHT P Q] .. [fixed BLOCK] ..
+    tools/survey.py CORNERS GRID TOLERANCE [short] [material NAME WEIGHT P Q] .. [fixed BLOCK] ..
 
 Nothing here is proved. CORNERS is a file with a line `block,material,x,y` for each corner, as a spreadsheet or a CAD
 program writes it (csv): the corners of each block in order, x to the right and y upwards, in metres. The first line may
@@ -16,6 +16,9 @@ What the script does, in this order:
 3. A corner that then lies off an edge of another block, but within TOLERANCE of it, moves to the nearest point of the
    grid on that edge, if there is one within TOLERANCE. On a level or an upright edge there always is, on a slanting one
    seldom: tools/look.py lists what still doesn't meet.
+
+4. With `short` each joint is turned into a short direction, by at most TOLERANCE at each corner, as `tools/variant.py
+   short` does it. On a fine grid the numbers may be too wide without that.
 
 No block is cut, and none gets another corner. The script refuses, by name, a block that isn't strictly convex then, and
 two that overlap. Standard error says how far the farthest corner moved. Look at the model with tools/look.py and with
@@ -34,6 +37,7 @@ from itertools import combinations
 from math import gcd, hypot
 
 from masonry.console import Refused, Words, ran, shown
+from masonry.directions import Turned, in_short_directions
 from masonry.model import Block, COORDINATE, Material, Model, Point, WEIGHT, printed, text_of
 from masonry.numbers import decimal, number, whole
 from masonry.open_faces import is_convex, overlap
@@ -74,13 +78,15 @@ class Drawn:
     corners: dict[str, list[Whole]]
     farthest: Corner
     moved: float
+    turned: Turned | None = None
 
 
 @dataclass
 class Asked:
-    """Materials by name, and the names of fixed bodies."""
+    """Materials by name, the names of fixed bodies, and whether joints are to be in short directions."""
     materials: dict[str, Material] = field(default_factory=dict)
     fixed: list[str] = field(default_factory=list)
+    short: bool = False
 
 
 # The file
@@ -188,24 +194,26 @@ def to_edges(stones: Sequence[Stone], places: dict[int, Whole], reach: Fraction)
 # The model
 
 
-def drawn(stones: list[Stone], grid: Fraction, tolerance: Fraction) -> Drawn:
+def drawn(stones: list[Stone], grid: Fraction, tolerance: Fraction, short: bool = False) -> Drawn:
     """The blocks on the grid."""
     for stone in stones:
         if len(stone.corners) < 3:
             raise Refused(f"{stone.name} has {'two corners' if len(stone.corners) == 2 else 'one corner'}")
     places = on_grid(stones, grid, tolerance)
     to_edges(stones, places, tolerance / grid)
-    corners = {stone.name: [places[id(corner)] for corner in stone.corners] for stone in stones}
-    for stone in stones:
-        check(stone.name, [(at.x, at.y) for at in corners[stone.name]])
-    outlines = {name: [(at.x, at.y) for at in of] for name, of in corners.items()}
+    outlines = {stone.name: [(at.x, at.y) for at in (places[id(corner)] for corner in stone.corners)]
+                for stone in stones}
+    for name, outline in outlines.items():
+        check(name, outline)
+    turned = in_short_directions(outlines, tolerance / grid) if short else None
+    outlines = turned.outlines if turned else outlines
     for one, other in combinations(outlines, 2):
         if overlap(outlines[one], outlines[other]):
             raise Refused(f"{one} and {other} overlap")
-    moves = [(hypot(places[id(corner)].x * grid - corner.x, places[id(corner)].y * grid - corner.y), corner)
-             for stone in stones for corner in stone.corners]
+    moves = [(hypot(x * grid - corner.x, y * grid - corner.y), corner)
+             for stone in stones for corner, (x, y) in zip(stone.corners, outlines[stone.name])]
     moved, farthest = max(moves, key=lambda it: it[0])
-    return Drawn(stones, corners, farthest, moved)
+    return Drawn(stones, {name: [Whole(*at) for at in of] for name, of in outlines.items()}, farthest, moved, turned)
 
 
 def check(name: str, outline: Sequence[Point]) -> None:
@@ -240,24 +248,29 @@ def asked_of(words: Sequence[str]) -> Asked:
         elif rest[0] == "fixed" and len(rest) > 1:
             asked.fixed.append(rest[1])
             rest = rest[2:]
+        elif rest[0] == "short" and not asked.short:
+            asked.short, rest = True, rest[1:]
         else:
-            raise Words(f"after TOLERANCE come `material NAME WEIGHT P Q` and `fixed BLOCK`, and not {shown(rest[0])}")
+            raise Words("after TOLERANCE come `short`, `material NAME WEIGHT P Q` and `fixed BLOCK`, and not "
+                        f"{shown(rest[0])}")
     return asked
 
 
 def lines_of(found: Drawn) -> Iterable[str]:
     at = found.farthest
     yield f"{len(found.stones)} blocks, {sum(map(len, found.corners.values()))} corners"
+    if found.turned:
+        yield found.turned.line()
     yield f"the farthest corner moved by {number(found.moved)} m: {at.block}, at {number(at.x)} {number(at.y)}"
 
 
 def main(words: list[str]) -> int:
     if len(words) < 3:
-        raise Words("the words are CORNERS GRID TOLERANCE [material NAME WEIGHT P Q] .. [fixed BLOCK] ..")
+        raise Words("the words are CORNERS GRID TOLERANCE [short] [material NAME WEIGHT P Q] .. [fixed BLOCK] ..")
     grid = decimal(words[1], "GRID", Fraction(1, 10**6), 10**6)
     tolerance = decimal(words[2], "TOLERANCE", 0, 10**6)
     asked = asked_of(words[3:])
-    found = drawn(stones_of(text_of(words[0])), grid, tolerance)
+    found = drawn(stones_of(text_of(words[0])), grid, tolerance, asked.short)
     sys.stdout.write(printed(model_of(found, asked)))
     for line in lines_of(found):
         print(line, file=sys.stderr)

@@ -8,6 +8,7 @@
     tools/variant.py without MODEL NAME ..
     tools/variant.py with MODEL KIND BLOCK X Y FX FY
     tools/variant.py inset MODEL D [M]
+    tools/variant.py short MODEL TOLERANCE
 
 Nothing here is proved. Each form prints one model. Those of the first four are models of certificates that aren't of
 the drawing itself, so that `check` and `table` can judge them:
@@ -34,6 +35,10 @@ The others are for questions of your own:
   joint loses more than a twentieth more than D, or the best that the limits of a model allow. The first line says by
   what forces and lengths are multiplied. Standard error says what was taken. docs/use/scope.md says what this is for:
   stones that crush.
+- `short`: each joint lies along a vector of whole numbers up to 12, or a multiple of it, if no corner must move farther
+  for that than TOLERANCE, in units of the grid. So certificates get shorter numbers, where a fine grid is too wide. It
+  is another drawing, and its factors are a little different. A load at a corner of its block goes with it. Standard
+  error says how many joints were turned, and how far the farthest corner moved.
 
 All else stays as it is and in its order. Comments are lost, but for such first lines. MODEL must be a model that the
 program accepts. If the words make no sense, the exit status is 2. It is 70 if MODEL is no model, if a file can't be
@@ -47,9 +52,10 @@ from dataclasses import dataclass, replace
 from fractions import Fraction
 
 from masonry.console import Refused, Words, plain, ran, shown
+from masonry.directions import short
 from masonry.inset import inset
 from masonry.model import COORDINATE, FORCE, LOADS, Load, Model, bearings_of, multiple, printed, read, share, text_of
-from masonry.numbers import decimal, fraction, whole
+from masonry.numbers import decimal, fraction, number, whole
 from masonry.program import answer
 from masonry.units import Dead, Scale, dead_of, scale_of
 
@@ -130,6 +136,12 @@ def of_inset(name: str, rest: list[str]) -> Made:
     return found.model, found.scale
 
 
+def of_short(name: str, rest: list[str]) -> Made:
+    made, found = short(read(name), decimal(rest[0], "TOLERANCE", 0, COORDINATE))
+    print(found.line(), f"the farthest corner moved by {number(found.moved)}", sep="\n", file=sys.stderr)
+    return made, None
+
+
 @dataclass(frozen=True)
 class Form:
     """What follows MODEL, `..` where there may be more; and the model that a file and these words make, with what its
@@ -148,7 +160,7 @@ FORMS = {"reversed": Form("", lambda name, rest: (read(name).turned(), None)), "
          "direction": Form("I J M N", of_direction), "share": Form("N D", of_share),
          "without": Form("NAME ..", lambda name, rest: (without(read(name), rest), None)),
          "with": Form("KIND BLOCK X Y FX FY", lambda name, rest: (with_load(name, rest), None)),
-         "inset": Form("D [M]", of_inset)}
+         "inset": Form("D [M]", of_inset), "short": Form("TOLERANCE", of_short)}
 
 
 def in_form(form: str, words: list[str]) -> str:

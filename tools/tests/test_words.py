@@ -60,6 +60,7 @@ variant share M 1 2
 variant without M post
 variant with M dead post 1 4 0 -1
 variant inset M 1/4
+variant short A 2
 look M
 look M 2 0.5
 earth N 2 30 20 0 0 5
@@ -67,7 +68,7 @@ earth N 2 30 20 0 0 5 live 3 dead
 earth M 2 30 20 0 0 5 quake 1 10
 earth fill A 2 200
 earth fill A 2 200 push 1/3 spread 5 0 4 1/2 live
-survey S 0.1 0.02 material stone 1 7 10 fixed ground
+survey S 0.1 0.02 short material stone 1 7 10 fixed ground
 draw arch 6 400 short
 draw ring 7 100 20 150
 draw sway 1 0 wall 2 2 5
