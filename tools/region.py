@@ -1,7 +1,7 @@
 #!/usr/bin/env python3
 """Reads the region of two live loads: its points, its bounds, and where to ask next.
 
-    tools/region.py MODEL I J DIRS [kN FORCE] [all] [csv]
+    tools/region.py MODEL I J DIRS [from A B] [sector] [kN FORCE] [all] [csv]
 
 Nothing here is proved, but each point and each half-plane is that of an answer of the program, or has a certificate
 that `check` accepts. The factors of I and J are a and b. I and J are the numbers of live loads, such as 3; or groups of
@@ -39,6 +39,11 @@ carried or near, and no direction meets what is near exactly: a direction toward
 It is `unsettled` if something is open and no new direction of whole numbers up to 1,000,000,000 comes nearer, or DIRS
 has 1,000 lines.
 
+If the structure falls without its live loads, no load at all isn't in the region. Then name factors that are carried,
+with `from A B`, decimal numbers or fractions: they are dead in the models of the directions, which go out from there.
+All that is printed is in factors from 0 on. `tools/solve.py .. between`, on the model of a direction, finds such
+factors. With `sector` only factors a and b from 0 up are asked about: corners and sides are those of this part.
+
 With `kN FORCE` the decimals are in kN, where a force of 1 is FORCE kN: a and b times the size of what I and J come to.
 The factor of a sway stays a share of the weight. There is no `m LENGTH`: nothing that is printed is a length. With
 `csv` the lines have decimals alone, and commas between words.
@@ -54,12 +59,12 @@ from fractions import Fraction
 from math import atan2
 
 from masonry import console
-from masonry.console import Progress, Words
+from masonry.console import Ended, Progress, Words
 from masonry.lp.programs import Exact
 from masonry.model import text_of
-from masonry.numbers import ratio
+from masonry.numbers import decimal, ratio
 from masonry.questions import pairs
-from masonry.questions.pairs import Direction, Half, Region, lowest, region_of
+from masonry.questions.pairs import At, Direction, Half, NOTHING, Region, lowest, moved, region_of
 from masonry.units import scale_of, unit_of
 
 MOSTS = 10**3, 10**6, 10**9  # the greatest number of a direction: at first, and where that comes no nearer
@@ -249,20 +254,23 @@ def number(value: float) -> str:
 
 
 def lines_of(region: Region, sizes: Sizes = Sizes()) -> Iterator[Line]:
+    def told(at: Vector) -> Vector:
+        return at[0] + region.start[0], at[1] + region.start[1]
+
     for direction, at in region.points.items():
-        yield Line(("point", *direction), at, sizes.of(at))
+        yield Line(("point", *direction), told(at), sizes.of(told(at)))
     for direction in region.unlimited:
         yield Line(("unlimited", *direction))
     for direction, reason in region.refused.items():
         yield Line(("refused", *direction), last=(reason,))
-    for half in region.halves:
+    for half in (moved(half, region.start, 1) for half in region.halves):
         yield Line(("half",), half, sizes.half(half))
-    carried, corners = Carried(region), corners_of(region.halves)
+    carried, corners = Carried(region), corners_of(region.bounds())
     ends = [(at, carried.of_corner(at)) for at in corners]
-    starts = corners or feet_of(region.halves) or [(0, 0)]
-    sides = [(ray, carried.of_side(ray, starts)) for ray in endless(region.halves)]
+    starts = corners or feet_of(region.bounds()) or [(0, 0)]
+    sides = [(ray, carried.of_side(ray, starts)) for ray in endless(region.bounds())]
     for corner, word in ends:
-        yield Line(("corner",), corner, sizes.of(corner), (word.value,))
+        yield Line(("corner",), told(corner), sizes.of(told(corner)), (word.value,))
     for ray, word in sides:
         decimals = sizes.of(ray)
         size = max(abs(decimals[0]), abs(decimals[1]))
@@ -290,14 +298,31 @@ def sizes_of(words: list[str], force: Fraction) -> Sizes:
     return Sizes(a, b)
 
 
+def region_from(words: list[str], progress: Progress, start: At, sector: bool) -> Region:
+    """The region seen from a start; says the way out if that isn't carried."""
+    try:
+        return region_of(words[0], words[1], words[2], words[3], progress, start, sector)
+    except Ended as end:
+        if end.answer.output.startswith("collapses"):
+            what = "these factors aren't" if any(start) else "no load at all isn't"
+            console.said(f"region: {what} carried: name a pair of factors that is, `from A B`, as `tools/solve.py .. "
+                         "between` finds one on the model of a direction", 0)
+        raise
+
+
 def asked(words: list[str]) -> int:
-    options, force = words[4:], None
-    if len(words) > 5 and words[4] == "kN":
-        options, force = words[6:], unit_of(words[5], "FORCE")
+    options, force, start = words[4:], None, NOTHING
+    if options[:1] == ["from"] and len(options) > 2:
+        start, options = (decimal(options[1], "A"), decimal(options[2], "B")), options[3:]
+    sector = options[:1] == ["sector"]
+    options = options[sector:]
+    if len(options) > 1 and options[0] == "kN":
+        options, force = options[2:], unit_of(options[1], "FORCE")
     if len(words) < 4 or options not in ([], ["csv"], ["all"], ["all", "csv"]):
-        raise Words("the form is MODEL I J DIRS [kN FORCE] [all] [csv], without m LENGTH: a region has no lengths")
+        raise Words("the form is MODEL I J DIRS [from A B] [sector] [kN FORCE] [all] [csv], without m LENGTH: a region "
+                    "has no lengths")
     with Progress("region") as progress:
-        region = region_of(words[0], words[1], words[2], words[3], progress)
+        region = region_from(words, progress, start, sector)
         while "all" in options and (directions := named(region)):
             pairs.extend(region, (words[0], words[1], words[2]), directions, progress)
     for line in lines_of(region, sizes_of(words, force) if force else Sizes()):

@@ -14,7 +14,7 @@ from pathlib import Path
 from tempfile import TemporaryDirectory
 from unittest import mock
 
-from helpers import needs_esolver as setUpModule
+from helpers import needs_esolver as setUpModule, post as post_of
 
 import region
 from masonry import model as models, program
@@ -187,6 +187,36 @@ class Groups(unittest.TestCase):
         with contextlib.redirect_stdout(io.StringIO()) as out:
             self.assertEqual(region.main([self.name, i, j, self.dirs, *options]), 0)
         return out.getvalue().splitlines()
+
+    def test_a_region_without_no_load_at_all(self) -> None:
+        """A push of 5 to the left at its head tips the post of 8, which is 2 wide and 4 high. With a to the right there
+        and b from above, 20 - 4a is at most 8 + b about its left foot, 4a - 20 about the right one."""
+        models.write(self.name, post_of([Load("post", "dead", [2, 4], [-5, 0]), Load("post", "live", [0, 4], [1, 0]),
+                                         Load("post", "live", [1, 4], [0, -1])]))
+        Path(self.dirs).write_text("dir 1 0\n")
+        with contextlib.redirect_stderr(io.StringIO()) as err, contextlib.redirect_stdout(io.StringIO()) as out:
+            self.assertEqual(region.main([self.name, "2", "3", self.dirs, "all"]), 1)
+        self.assertEqual((out.getvalue().split()[0], "`from A B`" in err.getvalue()), ("collapses", True))
+        wanted = {"half 4 -1 28 = 1 -0.25 7", "half -4 -1 -12 = -1 -0.25 -3"}
+        for start in ("5", "0"), ("9/2", "1.5"):
+            lines = self.printed("2", "3", "from", *start, "all")
+            self.assertEqual({line for line in lines if line.startswith("half")}, wanted)
+            self.assertEqual([line for line in lines if line.startswith("corner")],
+                             ["corner 5/1 -8/1 = 5 -8 carried"])
+            self.assertEqual(lines[-1], "settled")
+        # Where both are from 0 up there are three corners: 3 and 7 on the one axis, 12 on the other.
+        lines = self.printed("2", "3", "from", "9/2", "1.5", "sector", "kN", "2", "all")
+        self.assertEqual({line for line in lines if line.startswith("corner")}, {
+            "corner 3/1 0/1 = 6 0 carried", "corner 7/1 0/1 = 14 0 carried", "corner 0/1 12/1 = 0 24 carried"})
+        self.assertEqual(lines[-1], "settled")
+
+    def test_a_start_under_a_sway(self) -> None:
+        """The sway of 8 tips the post with 16 for each unit; 8 and the load b steady it. A part of the sway is dead."""
+        models.write(self.name, post_of([Load("post", "live", [1, 4], [0, -1])], [1, 0]))
+        Path(self.dirs).write_text("dir 1 0\ndir -1 0\n")
+        lines = self.printed("sway", "1", "from", "1/8", "1/3")
+        self.assertEqual(lines[:2], ["point 1 0 at 25/48 1/3 = 0.520833 0.333333",
+                                     "point -1 0 at -25/48 1/3 = -0.520833 0.333333"])
 
     def test_a_region_has_no_lengths(self) -> None:
         with contextlib.redirect_stderr(io.StringIO()) as err:

@@ -15,7 +15,7 @@ from pathlib import Path
 from masonry import model as models, program
 from masonry.console import Answer, Ended, Refused, Telling, shown
 from masonry.model import Load, Model
-from masonry.numbers import whole
+from masonry.numbers import lowest as lowest_terms, whole
 from masonry.questions import results
 from masonry.questions.case import Case
 from masonry.questions.results import Collapses, Greatest, Shares, Unlimited
@@ -31,24 +31,36 @@ WIDE = 7  # the status of numbers that are too wide
 Direction = tuple[int, int]
 At = tuple[Fraction, Fraction]
 Half = tuple[int, int, int]
+NOTHING: At = (Fraction(0), Fraction(0))  # no load at all
 
 
 @dataclass
 class Region:
-    """What is known. Directions and half-planes are whole numbers in lowest terms, and points are fractions."""
+    """What is known, seen from a start, which is carried: directions and half-planes are whole numbers in lowest terms,
+    and points are fractions. `sides` bound the sector that is asked about."""
     points: dict[Direction, At] = field(default_factory=dict)
     unlimited: list[Direction] = field(default_factory=list)
     refused: dict[Direction, str] = field(default_factory=dict)
     halves: list[Half] = field(default_factory=list)
+    start: At = NOTHING
+    sides: list[Half] = field(default_factory=list)
 
     def asked(self) -> set[Direction]:
         return {lowest(one) for one in (*self.points, *self.unlimited, *self.refused)}
 
     def bounded(self, half: Half) -> None:
-        common = gcd(*half) or 1
-        half = half[0] // common, half[1] // common, half[2] // common
-        if half not in self.halves:
-            self.halves.append(half)
+        """Takes in a half-plane, seen from no load at all."""
+        if (seen := moved(half, self.start, -1)) not in self.halves:
+            self.halves.append(seen)
+
+    def bounds(self) -> list[Half]:
+        return [*self.halves, *self.sides]
+
+
+def moved(half: Half, start: At, sign: int) -> Half:
+    """A half-plane seen from a start (-1), or again from no load at all (1), in lowest terms."""
+    p, q, r = lowest_terms([half[0], half[1], half[2] + sign * (half[0] * start[0] + half[1] * start[1])])
+    return p, q, r
 
 
 def lowest(direction: Direction) -> Direction:
@@ -103,25 +115,36 @@ def group_of(model: Model, words: str) -> Group:
 
 @dataclass(frozen=True)
 class Pair:
-    """A model's two groups, I and J, which have no load in common."""
+    """A model's two groups, I and J, which have no load in common; and a model without live loads, in which the factors
+    of a start are dead, with what its forces are multiplied by."""
     name: str
     model: Model
     one: Group
     other: Group
+    base: Model
+    times: int = 1
 
     def directed(self, direction: Direction) -> Model:
         """The model of a direction. Its live loads are those of I times its first number, and of J times its second."""
         (m, n), model = direction, self.model
-        forces = [(load.block, load.at, load.times(times).force) for group, times in ((self.one, m), (self.other, n))
-                  for load in group.of(model) if times]
+        forces = [(load.block, load.at, load.times(self.times * times).force)
+                  for group, times in ((self.one, m), (self.other, n)) for load in group.of(model) if times]
         times = m * self.one.sways + n * self.other.sways
         sway = [times * part for part in model.sway or (0, 0)]
         if any(abs(part) > SWAY for part in sway):
             raise Refused(f"a sway beyond {SWAY}")
-        loads = [*model.dead_loads(), *models.listed(forces, "live")]
+        loads = [*self.base.loads, *models.listed(forces, "live")]
         if len(loads) > models.LOADS:
             raise Refused(f"more than {models.LOADS} loads")
-        return replace(model, loads=loads, sway=sway if any(sway) else None)
+        return replace(self.base, version=model.version, loads=loads, sway=sway if any(sway) else None)
+
+    def started(self, start: At) -> "Pair":
+        """The pair in whose models these factors are dead."""
+        if not any(start):
+            return self
+        m, n, d = lowest_terms([*start, Fraction(1)])
+        made = models.share(self.directed((m, n)), 1, d)
+        return replace(self, base=made, times=models.multiple(self.model, made, d))
 
     def half(self, motion: Motion) -> Half:
         """The half-plane of a motion that no bearing resists."""
@@ -136,7 +159,7 @@ def pair_of(name: str, i: str, j: str) -> Pair:
     one, other = group_of(model, i), group_of(model, j)
     if set(one.numbers) & set(other.numbers) or one.sways and other.sways:
         raise Refused(f"{shown(i)} and {shown(j)} have a load in common")
-    return Pair(name, model, one, other)
+    return Pair(name, model, one, other, replace(model, loads=model.dead_loads(), sway=None))
 
 
 # Directions
@@ -155,9 +178,12 @@ def directions_of(name: str) -> list[Direction] | None:
     return found or None
 
 
-def region_of(name: str, i: str, j: str, dirs: str, progress: Telling) -> Region:
-    """The region in the directions of a file."""
-    directions, region = directions_of(dirs), Region()
+def region_of(name: str, i: str, j: str, dirs: str, progress: Telling, start: At = NOTHING,
+              sector: bool = False) -> Region:
+    """The region in the directions of a file, seen from a start; with a sector where both factors are from 0 up."""
+    directions, region = directions_of(dirs), Region(start=start)
+    if sector:
+        region.sides = [moved(side, start, -1) for side in ((-1, 0, 0), (0, -1, 0))]
     if directions is None:
         if is_of_loads(i, j):
             program.answer("yield", name, i, j, dirs)
@@ -175,11 +201,11 @@ def extend(region: Region, words: tuple[str, str, str], directions: Sequence[Dir
     """Asks in more directions. What is known stays, and isn't asked again."""
     order = {direction: number for number, direction in enumerate([*region.points, *region.unlimited, *directions])}
     can = [one for one in directions if max(abs(one[0]), abs(one[1])) <= YIELD][:LINES]
-    taken = can if is_of_loads(*words[1:]) else []
+    taken = can if is_of_loads(*words[1:]) and not any(region.start) else []
     wide = yielded(region, words, taken) if taken else {}
     rest = {**{one: "" for one in directions if one not in taken}, **wide}
     if rest:
-        pair = pair_of(*words)
+        pair = pair_of(*words).started(region.start)
         for direction, reason in rest.items():
             progress(f"the direction {direction[0]} {direction[1]}")
             settled(region, pair, direction, reason)
