@@ -14,13 +14,14 @@ it reaches, within a unit of the grid, and rises to the left by BETA degrees. PH
 between earth and wall. KIND of the pressure is `dead` unless you write `live`. SURCHARGE is a load on each unit of
 length along x; its pressure has its own KIND.
 
-The back is each edge of a free block that faces left and that no other body hides. The pressure is Coulomb's active
-one: on an edge ka * WEIGHT * (depth below the top of the back) * (cosine of the lean) for each unit of its length,
-turned by DELTA from the normal, downwards. The top of the back is where its line meets the surface, or right above if
-that is higher. Edges one below the other are one back if their corners lie within a unit of the grid of one line. Earth
-on a step is a dead load on it; the surcharge on a step is left out, since it mostly holds the wall back. Behind a step,
-or where the back breaks, the plane of the edge below is drawn up to the surface. If the push on it, from the step up,
-is greater than that on the plane of the edge above, the difference is a load on the block with the step.
+The back is each edge of a free block that faces left and that no other body hides; a body that is buried hides it only
+if they touch. The pressure is Coulomb's active one: on an edge ka * WEIGHT * (depth below the top of the back) *
+(cosine of the lean) for each unit of its length, turned by DELTA from the normal, downwards. The top of the back is
+where its line meets the surface, or right above if that is higher. Edges one below the other are one back if their
+corners lie within a unit of the grid of one line. Earth on a step is a dead load on it; the surcharge on a step is left
+out, since it mostly holds the wall back. Behind a step, or where the back breaks, the plane of the edge below is drawn
+up to the surface. If the push on it, from the step up, is greater than that on the plane of the edge above, the
+difference is a load on the block with the step.
 
 **In an earthquake** the pressure is that of Mononobe and Okabe at N/D times the sway of the model. It is dead, in place
 of the static pressure. `tools/variant.py share` then makes N/D of the sway dead too, and `stand` judges the model that
@@ -83,12 +84,13 @@ from masonry.console import Refused, Words, ran, shown
 from masonry.fill import filled, weigh
 from masonry.model import Model, printed, read, text_of
 from masonry.numbers import decimal, whole
-from masonry.open_faces import Laid, Piece, Side, between, open_pieces, with_loads
+from masonry.open_faces import Laid, Piece, Place, Side, across, between, open_pieces, with_loads
 from masonry.program import answer
 from masonry.units import Scale, scale_of
 from masonry.water import flooded
 
 NEAR = 1.0  # how far the corners of one back may lie off its line
+BESIDE = Fraction(1, 10**6)  # just to the left of an edge
 HIGHEST = Fraction(2, 3)  # of the height of the back: where the increment of the pressure may act
 
 
@@ -247,11 +249,23 @@ class Behind:
 
     def __post_init__(self) -> None:
         self.laid = Laid()
-        backs = [piece for piece in open_pieces(self.model, Side.LEFT) if below_surface(piece, self.soil, self.start)]
+        backs = [piece for piece in open_pieces(self.model, Side.LEFT, passed=self.has_earth)
+                 if below_surface(piece, self.soil, self.start)]
         if not backs:
             raise Refused("no free block has an open edge to the left under the surface of the earth")
         foot = float(min(piece.end[1] for piece in backs))
         self.planes = [plane_of(chain, self.soil, self.start, foot) for chain in chains(backs)]
+
+    def has_earth(self, one: Place, two: Place) -> bool:
+        """Whether earth lies between a part of the back and what stands to the left of it: all of that is buried, and
+        nothing lies above the earth."""
+        x, y = (one[0] + two[0]) / 2 - BESIDE, (one[1] + two[1]) / 2
+        left = [body for body in self.model.blocks if min(b for _, b in body.corners) <= y
+                <= max(b for _, b in body.corners) and across(body, 1, y)[0] < x]
+        above = [body for body in self.model.blocks if min(a for a, _ in body.corners) <= x
+                 <= max(a for a, _ in body.corners) and across(body, 0, x)[1] > y]
+        (right, top), rise = self.start, tan(self.soil.beta)
+        return not above and all(b < top + (right - a) * rise for body in left for a, b in body.corners)
 
     def begins(self) -> None:
         """Refuses a surface that doesn't begin at the back of the top course: on its line, or above its head."""

@@ -234,6 +234,20 @@ class Backs(unittest.TestCase):
         pieces = open_pieces(model, Side.LEFT)
         self.assertEqual([(one.block, one.start[1], one.end[1]) for one in pieces], [("c1", 40, 0), ("c2", 60, 40)])
 
+    def test_earth_fills_the_gap_behind_a_buried_bank(self) -> None:
+        # A bank of 20 that stands 10 behind a wall of 60 is buried: the push is 18/3*60^2/2. If it lies at the wall, or
+        # reaches up to the surface, it takes the earth off the wall as far as it hides it.
+        def push(right: int, high: int) -> float:
+            model = wall([[0, 0], [40, 0], [40, 60], [0, 60]])
+            model.blocks.append(Block(name="bank", material="stone", fixed=True,
+                                      corners=[[-90, 0], [right, 0], [right, high], [-90, high]]))
+            return about(laid(model, Soil(18, radians(30), 0, 0), (0, 60)), "dead", 0, 0)[0]
+
+        self.assertAlmostEqual(push(-10, 20), 3 * 60 ** 2)
+        self.assertAlmostEqual(push(0, 20), 3 * 40 ** 2)
+        with self.assertRaises(Refused):
+            push(-10, 60)
+
     def test_a_back_above_the_surface_takes_its_part(self) -> None:
         u, _, moment = about(laid(wall([[0, 0], [90, 0], [90, 60], [0, 60]]), Soil(18, radians(30), 0, 0), (0, 50)),
                              "dead", 0, 0)
