@@ -106,7 +106,8 @@ def level_pieces(model: Model, way: int) -> Iterator[Piece]:
 
 
 def wet(model: Model, water: Water) -> Iterator[Wet]:
-    """What lies under water, to both sides."""
+    """What lies under water, to both sides. A level top that lies open to both is pressed once."""
+    pressed: set[Piece] = set()
     for x, level in (1, water.left), (-1, water.right):
         if level is None:
             continue
@@ -116,9 +117,12 @@ def wet(model: Model, water: Water) -> Iterator[Wet]:
             if part is None:
                 continue
             flows_over(seen, part, level, water.right if x > 0 else water.left)
-            size = share_of(part, piece)
-            pressures = [water.weight * (level - float(place[1])) for place in (part.start, part.end)]
-            yield Wet(mirror(part, x, 1), (pressures[0], pressures[1]), (x * along[0] * size, along[1] * size))
+            here = mirror(part, x, 1)
+            if replace(here, start=here.end, end=here.start) not in pressed:
+                pressed.add(here)
+                size = share_of(part, piece)
+                pressures = [water.weight * (level - float(place[1])) for place in (part.start, part.end)]
+                yield Wet(here, (pressures[0], pressures[1]), (x * along[0] * size, along[1] * size))
 
 
 def surface_at(level: float) -> Surface:

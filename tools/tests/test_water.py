@@ -74,6 +74,12 @@ class Water(Asked):
                          (True, False))
         self.assertEqual(self.wetted(post([]), "3", "right", "3", "foot")[1][1], "sum dead 0 6")
 
+    def test_a_post_under_water(self) -> None:
+        # The post is 2 wide and 4 high, and its top 2 under water: that lies on it with 2*2, and lifts it with 6*2
+        # below. So it is lifted by 2*4, what it displaces.
+        for words, up in ("6 right 6", -4), ("6 right 6 foot", 8):
+            self.assertEqual(self.wetted(post([]), *words.split())[1][1], f"sum dead 0 {up}")
+
     def test_steps_ledges_and_beds(self) -> None:
         # Water 4 deep pushes with 8. On a step 2 wide and 2 below the surface it lies with 4, and under a ledge 1 wide
         # it lifts with 2. In the foot 2 wide it lifts with 4*2/2; what it does in a bed of two blocks is no sum.
