@@ -191,6 +191,7 @@ ODD = {"near": "Corners that nearly meet a body (body, other body, place, gap)",
 # What no script can try: always, with a sway, without one, and with a live load that acts straight up or down.
 ALWAYS = """the ground under the toe, and the strength of stones at this thrust: docs/use/safety.md
 supports that give way, drawn as fixed: docs/worked/bridge.md, step 6
+stones that topple one on another down a slope: docs/use/published.md, "Columns that topple"
 slabs, lintels and corbels that break in bending: docs/use/scope.md, "What is left out"
 leaves of a wall, rings of an arch, and courses, drawn as one: docs/use/scope.md, "What is left out"
 failure out of the plane of the drawing: docs/worked/section.md

@@ -209,7 +209,7 @@ def westergaard(one: Wet, water: Water) -> Wet | None:
     one end to the other, with the same sum and the same moment."""
     deep = [pressure / water.weight for pressure in one.pressures]
     rise = deep[1] - deep[0]
-    if abs(one.along[0]) <= abs(one.along[1]) or rise <= 0:
+    if rise <= 0:
         return None
     unit = 7 / 8 * abs(water.share) * water.weight
     total = unit * 2 / 3 * (deep[1] ** 1.5 - deep[0] ** 1.5) / rise

@@ -133,6 +133,13 @@ class Water(Asked):
             found.append(self.stands(models.model_of(out.getvalue())))
         self.assertEqual(found, [True, False])
 
+    def test_a_flat_face_in_an_earthquake(self) -> None:
+        # A face that rises by 12 on 24: the water lies on it with 24*12/2 and pushes with 12^2/2, and in an earthquake
+        # with 7/12*12^2 more, as on any face that is 12 high.
+        flat = Block(name="b", material="stone", corners=[[0, 0], [48, 0], [48, 12], [24, 12]])
+        model = replace(wall(flat), version=2, sway=[1, 0])
+        self.assertEqual(self.wetted(model, "12", "quake", "1", "1")[1][1], "sum dead 156 -144")
+
     def test_the_retaining_wall(self) -> None:
         # docs/worked/wall.md, step 10, water alone: with uplift it slides at 5*h^2 = 2/3*(59.4 - 6*h).
         wet = example("walls/dry-stone-retaining-wall")
