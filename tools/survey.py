@@ -5,13 +5,15 @@
 
 Nothing here is proved. CORNERS is a file with a line `block,material,x,y` for each corner, as a spreadsheet or a CAD
 program writes it (csv): the corners of each block in order, x to the right and y upwards, in metres. The first line may
-be a heading. GRID is the side of a square of the grid, TOLERANCE how far apart two corners may lie that are one, both
+be a heading. If semicolons stand between the words, numbers may have decimal commas. GRID is the side of a square of the grid, TOLERANCE how far apart two corners may lie that are one, both
 in metres. Each material needs its unit weight and its friction P/Q; bodies of the names after `fixed` are fixed.
 
 What the script does, in this order:
 
 1. Corners of different blocks that lie within TOLERANCE of one another come together, at their mean. So do chains of
-   them. No corner of such a chain may move by more than TOLERANCE.
+   them. No corner of such a chain may move by more than TOLERANCE. An edge whose ends differ by at most TOLERANCE from
+   level or upright becomes so, together with those that it meets in a bed or a face, at the mean of all their corners,
+   if none of these must move by more than TOLERANCE for that.
 2. Each corner moves to the nearest point of the grid, those that came together as one.
 3. A corner that then lies off an edge of another block, but within TOLERANCE of it, moves to the nearest point of the
    grid on that edge, if there is one within TOLERANCE. On a level or an upright edge there always is, on a slanting one
@@ -21,8 +23,9 @@ What the script does, in this order:
    short` does it. On a fine grid the numbers may be too wide without that.
 
 No block is cut, and none gets another corner. The script refuses, by name, a block that isn't strictly convex then, and
-two that overlap. Standard error says how far the farthest corner moved. Look at the model with tools/look.py and with
-`contacts` before you judge it.
+two that overlap, fixed ones too. Standard error says how far the farthest corner moved, how far the free blocks reach,
+and what a force of 1 is in kN if weights are in kN/m3; and it names blocks of three corners, of which one may have been
+left out. Look at the model with tools/look.py and with `contacts` before you judge it.
 
 The exit status is 2 if the words make no sense, and 70 if the file can't be read or there is no such model. Python 3.11
 or later.
@@ -94,8 +97,9 @@ class Asked:
 
 def stones_of(text: str) -> list[Stone]:
     found: dict[str, Stone] = {}
+    commas = ";" not in text.strip().partition("\n")[0]
     try:
-        lines = list(csv.reader(text.splitlines()))
+        lines = list(csv.reader(text.splitlines(), delimiter="," if commas else ";"))
     except csv.Error as fault:
         raise Refused(f"no csv: {fault}") from None
     for row, words in enumerate(lines, 1):
@@ -108,7 +112,7 @@ def stones_of(text: str) -> list[Stone]:
             if not NAME.fullmatch(word):
                 raise Refused(f"line {row}: a name is 1 to 32 letters, digits, _ and -, and not {shown(word)}")
         try:
-            x, y = (decimal(word, called) for word, called in zip(words[2:], "xy"))
+            x, y = (decimal(word if commas else word.replace(",", "."), of) for word, of in zip(words[2:], "xy"))
         except Words as fault:
             raise Refused(f"line {row}: {fault}") from None
         stone = found.setdefault(words[0], Stone(words[0], words[1]))
@@ -149,12 +153,57 @@ def mean(group: Sequence[Corner], tolerance: Fraction) -> tuple[Fraction, Fracti
     return x, y
 
 
+@dataclass(frozen=True)
+class Straight:
+    """An edge that is nearly level, or upright: its ends, from where to where it goes along, and where it is across."""
+    ends: tuple[Corner, Corner]
+    start: Fraction
+    end: Fraction
+    across: Fraction
+
+    def meets(self, other: "Straight", tolerance: Fraction) -> bool:
+        return (abs(self.across - other.across) <= tolerance
+                and min(self.end, other.end) - max(self.start, other.start) > tolerance)
+
+
+def straight(stone: Stone, axis: int, tolerance: Fraction) -> Iterable[Straight]:
+    """The edges of a stone that are nearly upright (axis 0) or level (axis 1)."""
+    for a, b in zip(stone.corners, stone.corners[1:] + stone.corners[:1]):
+        (one, other), (start, end) = ((a.x, b.x), (a.y, b.y)) if axis == 0 else ((a.y, b.y), (a.x, b.x))
+        if abs(one - other) <= tolerance < abs(start - end):
+            yield Straight((a, b), min(start, end), max(start, end), (one + other) / 2)
+
+
+def level(stones: Sequence[Stone], groups: Sequence[Sequence[Corner]], tolerance: Fraction, axis: int
+          ) -> dict[int, Fraction]:
+    """The common y of corners on a level bed (axis 1), or the common x of those on an upright face (axis 0), by the
+    numbers of the groups that they belong to."""
+    number = {id(corner): k for k, group in enumerate(groups) for corner in group}
+    classes = [{k} for k in range(len(groups))]
+    edges = [edge for stone in stones for edge in straight(stone, axis, tolerance)]
+    met = [(one.ends[0], other.ends[0]) for one, other in combinations(edges, 2) if one.meets(other, tolerance)]
+    for a, b in [*(edge.ends for edge in edges), *met]:
+        one, other = classes[number[id(a)]], classes[number[id(b)]]
+        if one is not other:
+            one |= other
+            for k in other:
+                classes[k] = one
+    found: dict[int, Fraction] = {}
+    for members in {id(one): one for one in classes if len(one) > 1}.values():
+        parts = [(corner.x, corner.y)[axis] for k in members for corner in groups[k]]
+        middle = sum(parts, Fraction(0)) / len(parts)
+        if all(abs(part - middle) <= tolerance for part in parts):
+            found.update(dict.fromkeys(members, middle))
+    return found
+
+
 def on_grid(stones: Sequence[Stone], grid: Fraction, tolerance: Fraction) -> dict[int, Whole]:
     """Where each corner comes to lie, by its identity."""
-    found = {}
-    for group in together(stones, tolerance):
+    found, groups = {}, together(stones, tolerance)
+    across, up = (level(stones, groups, tolerance, axis) for axis in (0, 1))
+    for k, group in enumerate(groups):
         x, y = mean(group, tolerance)
-        at = Whole(round(x / grid), round(y / grid))
+        at = Whole(round(across.get(k, x) / grid), round(up.get(k, y) / grid))
         if max(abs(at.x), abs(at.y)) > COORDINATE:
             raise Refused(f"{group[0].block} lies beyond {COORDINATE} squares of the grid: measure from a nearer point")
         for corner in group:
@@ -180,15 +229,15 @@ def to_edges(stones: Sequence[Stone], places: dict[int, Whole], reach: Fraction)
     for one in stones:
         for corner in one.corners:
             at = places[id(corner)]
-            sides = [(places[id(a)], places[id(b)]) for other in stones if other is not one
+            sides = [(places[id(a)], places[id(b)]) for other in stones
+                     if all(places[id(corner)] != at for corner in other.corners)
                      for a, b in zip(other.corners, other.corners[1:] + other.corners[:1])]
-            if all(at not in side for side in sides):
-                found = [moved for a, b in sides if (moved := on_edge(at, a, b, reach))]
-                if found:
-                    nearest = min(found, key=lambda it: (it.x - at.x) ** 2 + (it.y - at.y) ** 2)
-                    for key, place in places.items():
-                        if place == at:
-                            places[key] = nearest
+            found = [moved for a, b in sides if (moved := on_edge(at, a, b, reach))]
+            if found:
+                nearest = min(found, key=lambda it: (it.x - at.x) ** 2 + (it.y - at.y) ** 2)
+                for key, place in places.items():
+                    if place == at:
+                        places[key] = nearest
 
 
 # The model
@@ -256,12 +305,19 @@ def asked_of(words: Sequence[str]) -> Asked:
     return asked
 
 
-def lines_of(found: Drawn) -> Iterable[str]:
+def lines_of(found: Drawn, asked: Asked, grid: Fraction) -> Iterable[str]:
     at = found.farthest
     yield f"{len(found.stones)} blocks, {sum(map(len, found.corners.values()))} corners"
     if found.turned:
         yield found.turned.line()
     yield f"the farthest corner moved by {number(found.moved)} m: {at.block}, at {number(at.x)} {number(at.y)}"
+    free = [corner for name, of in found.corners.items() if name not in asked.fixed for corner in of]
+    if free:
+        wide, high = (grid * (max(parts) - min(parts)) for parts in zip(*((at.x, at.y) for at in free)))
+        yield f"the free blocks reach over {number(wide)} m by {number(high)} m"
+    yield f"a force of 1 is {number(grid ** 2, 0)} kN, if weights are in kN/m3 and the slice is 1 m deep"
+    if three := [name for name, of in found.corners.items() if len(of) == 3]:
+        yield f"three corners alone, maybe one is left out: {' '.join(three)}"
 
 
 def main(words: list[str]) -> int:
@@ -272,7 +328,7 @@ def main(words: list[str]) -> int:
     asked = asked_of(words[3:])
     found = drawn(stones_of(text_of(words[0])), grid, tolerance, asked.short)
     sys.stdout.write(printed(model_of(found, asked)))
-    for line in lines_of(found):
+    for line in lines_of(found, asked, grid):
         print(line, file=sys.stderr)
     return 0
 

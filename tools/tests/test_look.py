@@ -12,15 +12,17 @@ import time
 import unittest
 from dataclasses import replace
 from fractions import Fraction
+from pathlib import Path
 from tempfile import TemporaryDirectory
 
 from helpers import TOP
 
+import draw
 import look
 import survey
 from masonry import program
 from masonry.console import Refused, Words
-from masonry.model import Block, Load, Material, Model, bearings_of, printed, put, read, share
+from masonry.model import Block, Load, Material, Model, bearings_of, model_of, printed, put, read, share, write
 from masonry.program import NOT_BUILT, built
 from masonry.units import Scale
 from survey import Corner, Stone
@@ -175,6 +177,55 @@ class Surveys(unittest.TestCase):
                          "c,s,1,2")
         self.assertEqual(made["c"], [(100, 100), (160, 100), (160, 200), (100, 200)])
 
+    @unittest.skipUnless(built(), NOT_BUILT)
+    def test_a_wall_measured_with_faults_keeps_its_joints(self) -> None:
+        """Bricks of 40 cm by 20 cm in bond, each corner measured with a fault of up to 4 mm, on a grid of 5 mm: beds
+        come out level and perpends upright, so that the wall has the bearings of one that was measured without."""
+        with contextlib.redirect_stdout(io.StringIO()) as out:
+            draw.main(["wall", "6", "4"])
+        wall, draws = model_of(out.getvalue()), random.Random(9)
+        tables = []
+        for fault in 0, 4:
+            lines = [",".join([block.name, "s", *(str((20 * part + draws.randint(-fault, fault)) / 1000)
+                                                  for part in at)]) for block in wall.blocks for at in block.corners]
+            found = survey.drawn(stones(*lines), Fraction(5, 1000), Fraction(15, 1000))
+            for outline in found.corners.values():
+                for a, b in zip(outline, outline[1:] + outline[:1]):
+                    self.assertIn(0, (a.x - b.x, a.y - b.y))
+            made = survey.model_of(found, survey.asked_of(["material", "s", "22", "2", "3", "fixed", "ground"]))
+            with TemporaryDirectory() as folder:
+                write(Path(folder, "model.toml"), made)
+                table = program.answer("contacts", Path(folder, "model.toml"))
+            tables.append([(one.first, one.second) for one in bearings_of(table)])
+        self.assertEqual(*tables)
+
+    def test_a_slope_stays(self) -> None:
+        """A bed that falls by 3 cm over 1 m isn't level; nor is a battered face of six courses, though each stone of it
+        leans by 1 cm alone: at their mean the first would move by 3 cm."""
+        made = self.made("a,s,0,0", "a,s,1,-0.03", "a,s,1,1", "a,s,0,1")
+        self.assertEqual(made["a"][:2], [(0, 0), (100, -3)])
+        made = self.made(*(f"s{k},s,{x},{y}" for k in range(6) for x, y in (
+            (k / 100, 0.3 * k), (1, 0.3 * k), (1, 0.3 * k + 0.3), (k / 100 + 0.01, 0.3 * k + 0.3))))
+        self.assertEqual([made[f"s{k}"][3][0] - made[f"s{k}"][0][0] for k in range(6)], [1] * 6)
+
+    def test_semicolons_and_decimal_commas(self) -> None:
+        found = stones("block;material;x;y", "a;stone;0;0", "a;stone;1,25;-0,5", "a;stone;1.5;2")
+        self.assertEqual(found[0].corners[1:], [Corner("a", Fraction(5, 4), Fraction(-1, 2)),
+                                                Corner("a", Fraction(3, 2), Fraction(2))])
+        with self.assertRaises(Refused):
+            stones("a,stone,0,0", "a,stone,1,25,0")
+
+    def test_what_is_told_of_a_survey(self) -> None:
+        """The free blocks reach over 1.6 m by 2 m; on a grid of 1 cm a stone of 22 kN/m3 and 1 m2 weighs 220000, which
+        is 22 kN; a block has three corners."""
+        found = survey.drawn(stones("g,s,-9,-1", "g,s,9,-1", "g,s,9,0", "g,s,-9,0", "a,s,0,0", "a,s,1.6,0", "a,s,0,2"),
+                             self.GRID, self.TOLERANCE)
+        lines = list(survey.lines_of(found, survey.asked_of(["fixed", "g"]), self.GRID))
+        self.assertEqual(lines[2:], [
+            "the free blocks reach over 1.6 m by 2 m",
+            "a force of 1 is 0.0001 kN, if weights are in kN/m3 and the slice is 1 m deep",
+            "three corners alone, maybe one is left out: a"])
+
     def test_the_farthest_move_is_told(self) -> None:
         found = survey.drawn(stones("a,s,0,0", "a,s,2,0", "a,s,2.004,1.003", "a,s,0,1"), self.GRID, self.TOLERANCE)
         self.assertEqual((found.farthest.block, found.farthest.x), ("a", Fraction(2004, 1000)))
@@ -190,6 +241,11 @@ class Surveys(unittest.TestCase):
                 "far lies beyond": ("far,s,0,0", "far,s,99999,0", "far,s,0,1")}.items():
             with self.subTest(said), self.assertRaisesRegex(Refused, said):
                 self.made(*lines)
+
+    def test_fixed_bodies_that_overlap_are_refused_too(self) -> None:
+        with TemporaryDirectory() as folder, self.assertRaisesRegex(Refused, "a and b overlap"):
+            put(f"{folder}/csv", "a,s,0,0\na,s,2,0\na,s,2,2\na,s,0,2\nb,s,1,1\nb,s,3,1\nb,s,3,3\n")
+            survey.main([f"{folder}/csv", "0.01", "0.02", "material", "s", "22", "2", "3", "fixed", "a", "fixed", "b"])
 
     def test_materials_must_be_given(self) -> None:
         found = survey.drawn(stones("a,s,0,0", "a,s,2,0", "a,s,0,1"), self.GRID, self.TOLERANCE)
