@@ -5,8 +5,9 @@
 
 Nothing here is proved. CORNERS is a file with a line `block,material,x,y` for each corner, as a spreadsheet or a CAD
 program writes it (csv): the corners of each block in order, x to the right and y upwards, in metres. The first line may
-be a heading. If semicolons stand between the words, numbers may have decimal commas. GRID is the side of a square of the grid, TOLERANCE how far apart two corners may lie that are one, both
-in metres. Each material needs its unit weight and its friction P/Q; bodies of the names after `fixed` are fixed.
+be a heading. If semicolons stand between the words, numbers may have decimal commas. GRID is the side of a square of
+the grid, TOLERANCE how far apart two corners may lie that are one, both in metres. Each material needs its unit weight
+and its friction P/Q; bodies of the names after `fixed` are fixed.
 
 What the script does, in this order:
 
