@@ -23,7 +23,8 @@ all fixed bodies are of a material of their own, and P over Q is its friction wi
   numbers. Each joint is turned a little for that, by less than the angle of a voussoir. docs/use/other_solvers.md says
   why this helps.
 - `ring`: an arch by the radius of its middle line and its thickness, over so many DEGREES, 180 if none are given, on
-  springers square to its ends. One with a clear span of 4 m, 0.5 m thick, on a grid of 1 cm is `ring 9 225 50`.
+  springers square to its ends. One with a clear span of 4 m, 0.5 m thick, on a grid of 1 cm is `ring 9 225 50`. With
+  360 degrees it is a whole ring, as of a tunnel, whose lowest voussoir is fixed.
 - `half`: the right half of a ring of twice as many voussoirs and 180 degrees, with a vertical wall without friction at
   its crown. By symmetry it stands exactly if that ring does, while its `load` is another question.
 - `wall`: bricks 20 long and 10 high in running bond, BRICKS in each even course, counted from 0. An odd course is
@@ -79,7 +80,7 @@ SHAPES = {"arch": Shape(arch, ("VOUSSOIRS WIDTH", "VOUSSOIRS WIDTH short")),
 # From where to where each number may be; decimals are taken for the last four.
 LIMITS = {"VOUSSOIRS": (1, FREE), "COURSES": (1, FREE), "STONES": (1, FREE), "BRICKS": (1, FREE), "SHIFT": (0, 19),
           "SEED": (-10**18, 10**18), "LEAN": (0, 20), "BATTER": (1, 1000), "WIDTH": (1, 2 * COORDINATE),
-          "RADIUS": (1, COORDINATE), "THICKNESS": (1, COORDINATE), "DEGREES": (1, 180)}
+          "RADIUS": (1, COORDINATE), "THICKNESS": (1, COORDINATE), "DEGREES": (1, 360)}
 LENGTHS = "WIDTH", "RADIUS", "THICKNESS", "DEGREES"
 
 

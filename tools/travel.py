@@ -1,8 +1,8 @@
 #!/usr/bin/env python3
 """Moves live loads along a structure: what it carries at each place where that can be least, and the least of all.
 
-    tools/travel.py MODEL N [inset D] [X ..] [kN FORCE] [m LENGTH]
-    tools/travel.py MODEL N,M[,..] [inset D] [X ..] [kN FORCE] [m LENGTH]
+    tools/travel.py MODEL N [faces] [inset D] [X ..] [kN FORCE] [m LENGTH]
+    tools/travel.py MODEL N,M[,..] [faces] [inset D] [X ..] [kN FORCE] [m LENGTH]
 
 Nothing here is proved, but each factor has a certificate that `check` accepts. N is the number of a live load in the
 file. With commas these loads move together, as axles do, at the distances that they have in the file. At each X the
@@ -14,6 +14,9 @@ Of loads that move together each position counts at which one of them is at an e
 all bodies, has left the structure: it is left out there. Between two places next to one another each load stays on one
 block, and its moment changes evenly; so forces that carry a factor at both, mixed, carry it between them. Loads that
 slant act on the tops, and then each corner of a top is a place. Their heights there must be whole numbers.
+
+With `faces` the loads move up and down along the faces from which they push, to the right or to the left: ice on a pier,
+an anchor in a wall. Then each X is a height, and left and right of a place are below and above it.
 
 With `inset D` each joint is shorter by D at each end, as in the model that `tools/variant.py inset MODEL D` prints; its
 lines go to standard error. The loads stay at the places of MODEL, in its units.
@@ -103,25 +106,47 @@ def bends(model: Model, x: int) -> bool:
                for at, y in block.corners)
 
 
-class Group:
-    """Live loads that move together, by the first of them; and the model with shorter joints, if it's to be that."""
+@dataclass(frozen=True)
+class Frame:
+    """The axis along which loads move, 0 across and 1 up, and which way is outwards along the other one."""
+    axis: int = 0
+    out: int = 1
 
-    def __init__(self, model: Model, numbers: Sequence[int], made: Inset | None = None) -> None:
+    def of(self, vector: models.Point) -> list[int]:
+        """A vector of the model, along the axis and outwards."""
+        return [vector[self.axis], self.out * vector[1 - self.axis]]
+
+    def back(self, along: int, out: int) -> list[int]:
+        return [along, self.out * out] if self.axis == 0 else [self.out * out, along]
+
+
+class Group:
+    """Live loads that move together, by the first of them, on tops, or on the faces from which they push; and the model
+    with shorter joints, if it's to be that."""
+
+    def __init__(self, model: Model, numbers: Sequence[int], made: Inset | None = None, faces: bool = False) -> None:
         for number in numbers:
             if not 1 <= number <= len(model.loads) or model.loads[number - 1].kind != "live":
                 raise Refused(f"there is no live load {number}")
         if len(set(numbers)) < len(numbers):
             raise Words("a load is named twice")
         self.model, self.numbers, self.made = model, [number - 1 for number in numbers], made
-        first = model.loads[self.numbers[0]]
-        self.ways = [model.loads[number].at[0] - first.at[0] for number in self.numbers]
-        self.slants = any(model.loads[number].force[0] for number in self.numbers)
+        pushes = {(model.loads[number].force[0] > 0) - (model.loads[number].force[0] < 0) for number in self.numbers}
+        if faces and pushes not in ({1}, {-1}):
+            raise Refused("loads that move along faces push all to the right, or all to the left")
+        self.frame = frame = Frame(1, -1 if 1 in pushes else 1) if faces else Frame()
+        # Seen so that the loads move from left to right, on tops.
+        self.seen = replace(model, blocks=[replace(block, corners=[frame.of(at) for at in block.corners])
+                                           for block in model.blocks])
+        along = [frame.of(model.loads[number].at)[0] for number in self.numbers]
+        self.ways = [one - along[0] for one in along]
+        self.slants = any(frame.of(model.loads[number].force)[0] for number in self.numbers)
 
     def ends(self) -> Iterator[int]:
         """The places at which a load passes from one top to another, and, where loads slant, all corners of tops."""
-        for x in sorted({x for block in self.model.blocks for x, _ in block.corners}):
-            changes = seat(self.model, x, -HALF).block != seat(self.model, x, HALF).block
-            if changes or self.slants and bends(self.model, x):
+        for x in sorted({at[0] for block in self.seen.blocks for at in block.corners}):
+            changes = seat(self.seen, x, -HALF).block != seat(self.seen, x, HALF).block
+            if changes or self.slants and bends(self.seen, x):
                 yield x
 
     def places(self) -> list[int]:
@@ -130,7 +155,7 @@ class Group:
 
     def seats(self, x: int) -> list[tuple[Seat, ...]]:
         """Where the loads act with the first at x: coming from the left, and from the right, if that is different."""
-        found = [tuple(seat(self.model, x + way, side) for way in self.ways) for side in (-HALF, HALF)]
+        found = [tuple(seat(self.seen, x + way, side) for way in self.ways) for side in (-HALF, HALF)]
         return list(dict.fromkeys(found))
 
     def placed(self, seats: Sequence[Seat]) -> Model:
@@ -142,13 +167,15 @@ class Group:
         return self.made.loaded(there) if self.made else replace(self.model, loads=there)
 
     def moved(self, load: Load, where: Seat) -> Load:
-        """A load at its seat. The height of a load that acts straight down doesn't matter."""
-        if not load.force[0]:
-            return replace(load, block=where.block, at=[where.x, load.at[1]])
-        top = next(height(block, Fraction(where.x)) for block in self.model.blocks if block.name == where.block)
+        """A load at its seat. The height of a load that acts straight down, or the place across of one that acts level,
+        doesn't matter."""
+        frame = self.frame
+        if not frame.of(load.force)[0]:
+            return replace(load, block=where.block, at=frame.back(where.x, frame.of(load.at)[1]))
+        top = next(height(block, Fraction(where.x)) for block in self.seen.blocks if block.name == where.block)
         if top is None or top.denominator > 1:
             raise Refused(f"a load that slants would act {where.said()}, at a height that is no whole number")
-        return replace(load, block=where.block, at=[where.x, int(top)])
+        return replace(load, block=where.block, at=frame.back(where.x, int(top)))
 
 
 # Answers
@@ -249,30 +276,32 @@ def said_least(word: str, places: Sequence[Place], told: Told) -> str:
     return f"least {word}{'unlimited' if place is None else place.said(told)}"
 
 
-def group_of(name: str, numbers: Sequence[int], shorter: Fraction | None) -> tuple[Group, str]:
+def group_of(name: str, numbers: Sequence[int], shorter: Fraction | None, faces: bool) -> tuple[Group, str]:
     """The loads that move, and the table of contacts of the model on which they do."""
     table, model = program.answer("contacts", name), models.read(name)
     if shorter is None:
-        return Group(model, numbers), table
+        return Group(model, numbers, None, faces), table
     made = inset(model, models.bearings_of(table), shorter)
     for line in made.lines:
         print(line, file=sys.stderr)
     with tempfile.TemporaryDirectory() as folder:
         short = str(Path(folder, "model.toml"))
         models.write(short, made.model)
-        return Group(model, numbers, made), program.answer("contacts", short)
+        return Group(model, numbers, made, faces), program.answer("contacts", short)
 
 
 def travel(words: list[str]) -> int:
     words, given_units = with_units(words, 2)
+    faces = words[2:3] == ["faces"]
+    words = words[:2] + words[3:] if faces else words
     is_inset = words[2:3] == ["inset"]
     if len(words) < (4 if is_inset else 2):
-        raise Words("the form is MODEL N [inset D] [X ..] [kN FORCE] [m LENGTH]")
+        raise Words("the form is MODEL N [faces] [inset D] [X ..] [kN FORCE] [m LENGTH]")
     loads = [whole(word, "N") for word in words[1].split(",")]
     shorter = decimal(words[3], "D", Fraction(1, 10**6), models.COORDINATE) if is_inset else None
     given = [whole(word, "X", -models.COORDINATE, models.COORDINATE) for word in words[4 if is_inset else 2:]]
     with Progress("travel") as progress:
-        group, table = group_of(words[0], loads, shorter)
+        group, table = group_of(words[0], loads, shorter, faces)
         known = Known(table, tried={of: Tried() for of in ("ray", "greatest", "carried")})
         told = told_of(group, given_units, scale_of(models.text_of(words[0])))
         for line in given_units.lines():

@@ -113,6 +113,11 @@ def short_joints(count: int, inner: float, thickness: float) -> list[tuple[Pair,
 
 
 def ring(count: int, radius: float, thickness: float, degrees: float = 180) -> Drawing:
+    closed = degrees == 360
+    if closed and count < 3:
+        raise Refused("a whole ring has three voussoirs or more")
+    if closed:  # the lowest voussoir is fixed
+        count, degrees = count - 1, 360 * (count - 1) / count
     start, whole = math.radians(90 - degrees / 2), math.radians(degrees)
     inner, outer = radius - thickness / 2, radius + thickness / 2
 
@@ -125,9 +130,11 @@ def ring(count: int, radius: float, thickness: float, degrees: float = 180) -> D
                 round(distance * math.sin(angle) - back * math.cos(angle)))
 
     bodies = []
-    for name, joint, back in ("right", 0, thickness), ("left", count, -thickness):
+    for name, joint, back in () if closed else (("right", 0, thickness), ("left", count, -thickness)):
         corners = [at(outer, joint), at(inner, joint), at(inner, joint, back), at(outer, joint, back)]
         bodies.append(Body(name, True, corners))
+    if closed:
+        bodies.append(Body("invert", True, [at(inner, count), at(outer, count), at(outer, 0), at(inner, 0)]))
     for joint in range(count):
         corners = [at(inner, joint), at(outer, joint), at(outer, joint + 1), at(inner, joint + 1)]
         bodies.append(Body(f"v{joint + 1}", False, corners))

@@ -14,7 +14,7 @@ import helpers  # puts tools/ where modules are found
 import draw
 from masonry import shapes
 from masonry.console import Refused, Words
-from masonry.model import model_of
+from masonry.model import model_of, twice_area
 
 
 class Drawings(unittest.TestCase):
@@ -75,6 +75,18 @@ class Drawings(unittest.TestCase):
             self.assertGreaterEqual(min(abs(head - foot) for head in heads for foot in feet), 4)
             self.assertEqual(courses[number][0][2][1], courses[number + 1][0][0][1])
         self.assertEqual(load.block, "s4-0")
+
+    def test_a_whole_ring(self) -> None:
+        """Its eleven free voussoirs are eleven twelfths of a ring of twelve corners, of the area 12/2*sin(30 degrees)
+        times the difference of the squares of its radii. Two neighbours share a joint, all round."""
+        bodies = shapes.ring(12, 20000, 4000, 360).bodies
+        area = sum(abs(twice_area(body.corners)) for body in bodies if not body.fixed) / 2
+        self.assertAlmostEqual(area / (11 / 4 * (22000 ** 2 - 18000 ** 2)), 1, 4)
+        self.assertEqual([body.name for body in bodies if body.fixed], ["invert"])
+        joined = bodies[1:] + bodies[:1]
+        self.assertTrue(all(len(set(one.corners) & set(other.corners)) == 2 for one, other in zip(bodies, joined)))
+        with self.assertRaises(Refused):
+            shapes.ring(2, 200, 40, 360)
 
     def test_a_ring_is_its_own_mirror_image(self) -> None:
         for count, radius, thickness, degrees in ((6, 260, 34, 120), (5, 300, 70, 100), (7, 202.5, 30, 106.26)):

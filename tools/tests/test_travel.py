@@ -12,7 +12,7 @@ from fractions import Fraction
 from pathlib import Path
 from unittest import mock
 
-from helpers import Asked, at_random, example, needs_esolver as setUpModule, post, refusing
+from helpers import Asked, at_random, example, ground, needs_esolver as setUpModule, post, refusing
 
 import travel
 from masonry import model as models, program
@@ -53,6 +53,27 @@ class Travels(Asked):
         self.travelled(against, "1,2", "kN", "1", status=70)
         self.assertEqual(travel.carries(Shares(Fraction(2, 3), Fraction(5, 3), None, True), Size(Fraction(1), 2)),
                          "carried 2/3 = 0.94280904 beyond 5/3 = 2.35702261")
+
+    def test_loads_that_move_along_faces(self) -> None:
+        """A push of 1 on a pile of two stones, 6 wide and 3 high each, of the weight 18 each, with the friction 1. At
+        the height y of the upper stone, from 3 on, the whole tips at 36*3/y, and the upper stone at 18*3/(y - 3): at
+        the top 18 both. The lower stone is pushed at y up to 3: 36 is the most, as both slide then. From the right it
+        is the same."""
+        for force, x in ([1, 0], 0), ([-1, 0], 6):
+            pile = Model(None, None, [Material("stone", 1, [1, 1])], [], [
+                ground(-9, 20), *(Block(name=name, material="stone", corners=[[0, y], [6, y], [6, y + 3], [0, y + 3]])
+                                  for name, y in (("lower", 0), ("upper", 3)))], [Load("upper", "live", [x, 4], force)])
+            lines = self.travelled(pile, "1", "faces")
+            self.assertEqual(lines, ["at 0 on lower 36/1 = 36", "at 3 on lower 36/1 = 36", "at 3 on upper 18/1 = 18",
+                                     "at 6 on upper 18/1 = 18", "least at 3 on upper 18/1 = 18"])
+            self.assertEqual(self.travelled(pile, "1", "faces", "5", "m", "0.1")[1:],
+                             ["at 0.5 on upper 18/1 = 18", "least of the given places at 0.5 on upper 18/1 = 18"])
+        down = post([Load("post", "live", [0, 4], [0, -1])])
+        self.travelled(down, "1", "faces", status=70)
+        # A post 2 wide and 8 high, of the weight 16: at the height y it tips at 16/y, below 1 it slides at 16.
+        tall = post([Load("post", "live", [0, 4], [1, 0])], None, 8)
+        self.assertEqual([self.travelled(tall, "1", "faces", str(y))[-1].split(" = ")[1] for y in (0, 1, 2, 5, 8)],
+                         ["16", "16", "8", "3.2", "2"])
 
     def test_a_slanting_load_on_a_ring(self) -> None:
         # It acts on the tops, so that its places are their corners alone; the least is that of the other solver with
