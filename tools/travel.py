@@ -15,8 +15,8 @@ all bodies, has left the structure: it is left out there. Between two places nex
 block, and its moment changes evenly; so forces that carry a factor at both, mixed, carry it between them. Loads that
 slant act on the tops, and then each corner of a top is a place. Their heights there must be whole numbers.
 
-With `faces` the loads move up and down along the faces from which they push, to the right or to the left: ice on a pier,
-an anchor in a wall. Then each X is a height, and left and right of a place are below and above it.
+With `faces` the loads move up and down along the faces from which they push, to the right or to the left: ice on a
+pier, say. Then each X is a height, and the sides of a place are below and above it.
 
 With `inset D` each joint is shorter by D at each end, as in the model that `tools/variant.py inset MODEL D` prints; its
 lines go to standard error. The loads stay at the places of MODEL, in its units.

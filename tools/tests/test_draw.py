@@ -81,7 +81,7 @@ class Drawings(unittest.TestCase):
         times the difference of the squares of its radii. Two neighbours share a joint, all round."""
         bodies = shapes.ring(12, 20000, 4000, 360).bodies
         area = sum(abs(twice_area(body.corners)) for body in bodies if not body.fixed) / 2
-        self.assertAlmostEqual(area / (11 / 4 * (22000 ** 2 - 18000 ** 2)), 1, 4)
+        self.assertAlmostEqual(area / (11 / 4 * (22000 ** 2 - 18000 ** 2)), 1, 3)
         self.assertEqual([body.name for body in bodies if body.fixed], ["invert"])
         joined = bodies[1:] + bodies[:1]
         self.assertTrue(all(len(set(one.corners) & set(other.corners)) == 2 for one, other in zip(bodies, joined)))
