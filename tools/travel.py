@@ -3,6 +3,7 @@
 
     tools/travel.py MODEL N [faces] [inset D] [X ..] [kN FORCE] [m LENGTH]
     tools/travel.py MODEL N,M[,..] [faces] [inset D] [X ..] [kN FORCE] [m LENGTH]
+    tools/travel.py MODEL spread Y FORCE WIDTH SLOPE X .. [kN FORCE] [m LENGTH]
 
 Nothing here is proved, but each factor has a certificate that `check` accepts. N is the number of a live load in the
 file. With commas these loads move together, as axles do, at the distances that they have in the file. At each X the
@@ -17,6 +18,11 @@ slant act on the tops, and then each corner of a top is a place. Their heights t
 
 With `faces` the loads move up and down along the faces from which they push, to the right or to the left: ice on a
 pier, say. Then each X is a height, and the sides of a place are below and above it.
+
+With `spread` a live load of FORCE downwards moves on the surface of a fill at the height Y, spread over WIDTH about X,
+and by SLOPE to each side for each unit of depth, as by tools/earth.py fill, which has laid the fill itself in MODEL. It
+is asked about at the places X alone: between two of them less may be carried, so take them close together. Its parts
+are rounded as there, so take a small unit of force.
 
 With `inset D` each joint is shorter by D at each end, as in the model that `tools/variant.py inset MODEL D` prints; its
 lines go to standard error. The loads stay at the places of MODEL, in its units.
@@ -46,13 +52,16 @@ from dataclasses import dataclass, replace
 from fractions import Fraction
 from math import ceil, floor
 from pathlib import Path
+from typing import Protocol
 
 from masonry import console, model as models, numbers, program
 from masonry.console import Progress, Refused, Words
+from masonry.fill import Spread, lay_spread, pieces_under
 from masonry.inset import Inset, inset
 from masonry.lp.short_certificates import Tried
 from masonry.model import Block, Load, Model
 from masonry.numbers import decimal, nine_digits, ratio, whole
+from masonry.open_faces import Laid, Piece, with_loads
 from masonry.questions import results
 from masonry.questions.case import Case, Known
 from masonry.questions.results import Collapses, Loaded, Unlimited
@@ -178,6 +187,55 @@ class Group:
         return replace(load, block=where.block, at=frame.back(where.x, int(top)))
 
 
+class Moving(Protocol):
+    """What moves: the places that count, where it acts with its first load at x, and the model with it there."""
+
+    def places(self) -> list[int]: ...
+
+    def seats(self, x: int) -> list[tuple[Seat, ...]]: ...
+
+    def placed(self, seats: Sequence[Seat]) -> Model: ...
+
+
+@dataclass(frozen=True)
+class Spreading:
+    """A load that a fill spreads, and the pieces of backs on which it can fall."""
+    model: Model
+    pieces: list[Piece]
+    top: float
+    load: Spread
+
+    def laid(self, x: int) -> Laid | None:
+        """Its parts with its middle at x; None if not all of it falls on the structure."""
+        laid = Laid()
+        try:
+            lay_spread(laid, self.pieces, self.top, replace(self.load, x=float(x)))
+        except Refused:
+            return None
+        return laid
+
+    def places(self) -> list[int]:
+        raise Words("name the places X at which a load that is spread is to be asked about")
+
+    def seats(self, x: int) -> list[tuple[Seat, ...]]:
+        laid = self.laid(x)
+        return [(Seat(x, None if laid is None else ",".join(dict.fromkeys(block for block, _, _ in laid.sums))),)]
+
+    def placed(self, seats: Sequence[Seat]) -> Model:
+        laid = self.laid(seats[0].x)
+        return self.model if laid is None else with_loads(self.model, laid)[0]
+
+
+def spreading(model: Model, words: Sequence[str]) -> Spreading:
+    """What the words after `spread` say, but for the places."""
+    least = [Fraction(-10**6), Fraction(1, 10**6), Fraction(0), Fraction(0)]
+    top, force, width, slope = (float(decimal(word, called, limit, 10**9)) for word, called, limit in
+                                zip(words, ("Y", "FORCE", "WIDTH", "SLOPE"), least))
+    if width == slope == 0:
+        raise Words("WIDTH and SLOPE can't both be 0")
+    return Spreading(model, pieces_under(model, lambda _: top), top, Spread(force, 0.0, width, slope, "live"))
+
+
 # Answers
 
 
@@ -243,7 +301,7 @@ def least(places: Sequence[Place]) -> Place | None:
     return Place(limited[k].seats, found)
 
 
-def asked_at(group: Group, seats: tuple[Seat, ...], progress: Progress, known: Known) -> Place:
+def asked_at(group: Moving, seats: tuple[Seat, ...], progress: Progress, known: Known) -> Place:
     with tempfile.TemporaryDirectory() as folder:
         name, cert = str(Path(folder, "model.toml")), str(Path(folder, "answer.cert"))
         models.write(name, group.placed(seats))
@@ -292,6 +350,8 @@ def group_of(name: str, numbers: Sequence[int], shorter: Fraction | None, faces:
 
 def travel(words: list[str]) -> int:
     words, given_units = with_units(words, 2)
+    if words[1:2] == ["spread"]:
+        return travel_spread(words, given_units)
     faces = words[2:3] == ["faces"]
     words = words[:2] + words[3:] if faces else words
     is_inset = words[2:3] == ["inset"]
@@ -309,6 +369,20 @@ def travel(words: list[str]) -> int:
         return asked_along(group, given, told, lambda seats: asked_at(group, seats, progress, known))
 
 
+def travel_spread(words: list[str], given: Given) -> int:
+    """The same of a load that a fill spreads."""
+    if len(words) < 7:
+        raise Words("the form is MODEL spread Y FORCE WIDTH SLOPE X .. [kN FORCE] [m LENGTH]")
+    places = [whole(word, "X", -models.COORDINATE, models.COORDINATE) for word in words[6:]]
+    with Progress("travel") as progress:
+        program.answer("contacts", words[0])
+        moving, units = spreading(models.read(words[0]), words[2:6]), given.units(scale_of(models.text_of(words[0])))
+        told = Told(units, Size(Fraction(moving.load.force) * units.force) if given.force else Size())
+        for line in given.lines():
+            print(line)
+        return asked_along(moving, places, told, lambda seats: asked_at(moving, seats, progress, Known()))
+
+
 def told_of(group: Group, given: Given, scale: Scale) -> Told:
     """In which units the loads of a group are told, of which the words say these."""
     units = given.units(scale)
@@ -316,7 +390,7 @@ def told_of(group: Group, given: Given, scale: Scale) -> Told:
     return Told(units, size_of(loads, "the loads that move", units.force) if given.force else Size())
 
 
-def asked_along(group: Group, given: Sequence[int], told: Told, asked: Callable[[tuple[Seat, ...]], Place]) -> int:
+def asked_along(group: Moving, given: Sequence[int], told: Told, asked: Callable[[tuple[Seat, ...]], Place]) -> int:
     """Asks at the places that are given, or else at all, and prints what is found. Gives the status."""
     seats = [one for x in given or group.places() for one in group.seats(x)
              if given or any(where.block for where in one)]

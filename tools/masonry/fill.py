@@ -135,6 +135,14 @@ def options(words: list[str]) -> tuple[float, list[Spread]]:
     return push, spreads
 
 
+def pieces_under(model: Model, surface: Surface) -> list[Piece]:
+    """The parts of open edges of free blocks that face upwards, under a surface."""
+    pieces = [part for piece in open_pieces(model, Side.UP, True) if (part := under(piece, surface))]
+    if not pieces:
+        raise Refused(f"no free block has an open edge upwards under the height {surface(0.0):g}")
+    return pieces
+
+
 def filled(words: list[str]) -> tuple[Model, Scale, list[str]]:
     """The model with the fill on its arch, by what its forces are multiplied, and what to say."""
     if len(words) < 3:
@@ -147,10 +155,7 @@ def filled(words: list[str]) -> tuple[Model, Scale, list[str]]:
     def surface(_: float) -> float:
         return top
 
-    pieces = [part for piece in open_pieces(model, Side.UP, True) if (part := under(piece, surface))]
-    if not pieces:
-        raise Refused(f"no free block has an open edge upwards under the height {top:g}")
-    pushes = []
+    pieces, pushes = pieces_under(model, surface), []
     for piece in pieces:
         weigh(laid, model, piece, weight, surface)
         pushes.append(pushed(laid, piece, push * weight, surface))

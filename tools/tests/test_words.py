@@ -49,6 +49,7 @@ travel M 1,2 -1 0 1
 travel M 1 inset 1/10 1
 travel A 1 -84 kN 0.1 m 0.01
 travel M 1 faces 2
+travel A spread 200 50 20 1/2 0 10
 region M 1 2 D
 region M 1 2,sway D kN 0.5 csv
 region M 1 2 D from 1/9 0 sector
