@@ -49,7 +49,9 @@ class Places(Asked):
         """Nor of a stage, of a share or of the reversed model, whose names are made of CERT."""
         corbel, order = example("walls/corbel"), f"{self.folder}/model-1.toml"
         Path(order).write_text("corbel\n")
-        self.solved(corbel, "between", f"{self.folder}/model.cert", status=2)
+        self.solved(corbel, "between", f"{self.folder}/model.cert")
+        self.assertEqual(models.read(self.name), corbel)
+        self.assertTrue(Path(self.folder, "model-between.toml").exists())
         self.solved(corbel, "load", self.name, status=2)
         self.solved(corbel, "stages", f"{self.folder}/model.cert", order, status=2)
         for stem in "model-2", "model-carried", "model-reversed-beyond", "model-reversed":
