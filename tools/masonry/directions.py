@@ -193,8 +193,10 @@ def is_sound(drawing: Drawing, moved: Iterable[int]) -> bool:
 
 
 def turned(drawing: Drawing, line: Line, reach: Fraction) -> bool:
-    """Turns a line, if that can be done."""
-    found = sorted(ways(drawing, line, reach), key=lambda it: it[:2])
+    """Turns a line, if that can be done. No short direction needs more than a twelfth of its length, and a few units to
+    meet whole points."""
+    u, v = drawing.direction(line)
+    found = sorted(ways(drawing, line, min(reach, Fraction(isqrt(u * u + v * v), 12) + 12)), key=lambda it: it[:2])
     before = list(drawing.at)
     for _, _, moves in found[:TRIED]:
         for node, place in moves.items():
