@@ -11,14 +11,19 @@ vectors of signs drawn at random: lengths and angles are measured on it, and so 
 exact. Its unknowns are worked out where they are asked for.
 """
 import random
+import sys
+from array import array
 from collections.abc import Iterable, Mapping, Sequence
+from functools import cached_property
 from heapq import heappop, heappush
 from itertools import count, repeat
+from math import gcd
 from operator import mul
 from typing import TypeVar
 
 TOGETHER = 24  # so many vectors are reduced together, or a few more where the sums need them
 SHADOW = 64  # the numbers of a shadow
+LIGHT = 40  # bits of the least weight of sums beside lengths
 SURE = 2**46  # multiples below this, found in floating point, are right to a small part of 1
 
 Sums = Mapping[int, int]  # by the rows' numbers, without zeros
@@ -39,6 +44,17 @@ class Vector:
                  unknown: int | None = None) -> None:
         self.sums, self.shadow, self.made_of, self.unknown = sums, shadow, made_of, unknown
         self.number = next(Vector.numbers)
+        self.size = max(max(shadow), -min(shadow)) if shadow else 0  # of the longest number of the shadow
+
+    @cached_property
+    def packed(self) -> int:
+        """The shadow as one number, of which each of its own, less than 2^63 in size, takes 64 bits."""
+        return packed(self.shadow)
+
+    @cached_property
+    def floats(self) -> list[float]:
+        """The shadow in floating point."""
+        return [*map(float, self.shadow)]
 
     def at(self, rows: Iterable[int]) -> list[int]:
         return [self.sums.get(row, 0) for row in rows]
@@ -68,15 +84,32 @@ def squared(u: Sequence[int]) -> int:
     return dot(u, u)
 
 
+PLACES = sum(1 << 64 * k + 63 for k in range(SHADOW))  # the highest bit of each number of a packed shadow
+
+
+def packed(shadow: Sequence[int]) -> int:
+    """Numbers less than 2^63 in size as one, in which each takes 64 bits: sums of such are those of their numbers."""
+    return (int.from_bytes(array("q", shadow).tobytes(), sys.byteorder) ^ PLACES) - PLACES
+
+
+def unpacked(number: int) -> list[int]:
+    return array("q", (number + PLACES ^ PLACES).to_bytes(8 * SHADOW, sys.byteorder)).tolist()
+
+
 def combined(terms: Iterable[tuple[int, Vector]]) -> Vector:
     """The sum of vectors, each a number of times."""
     made_of = [(times, vector) for times, vector in terms if times]
     sums: dict[int, int] = {}
-    shadow = [0] * SHADOW
     for times, vector in made_of:
-        shadow = [x + times * y for x, y in zip(shadow, vector.shadow)]
         for row, amount in vector.sums.items():
             sums[row] = sums.get(row, 0) + times * amount
+    if sum(abs(times) * vector.size for times, vector in made_of) < 1 << 63:
+        shadow = unpacked(sum(times * vector.packed for times, vector in made_of))
+        shadow = shadow[:min((len(vector.shadow) for _, vector in made_of), default=SHADOW)]
+    else:
+        shadow = [0] * SHADOW
+        for times, vector in made_of:
+            shadow = [x + times * y for x, y in zip(shadow, vector.shadow)]
     return Vector({row: amount for row, amount in sums.items() if amount}, shadow, made_of)
 
 
@@ -183,7 +216,7 @@ class Step:
         self.plain = sum(not any(vector.at(group)) for vector in vectors)  # how many have no sums in the group
         self.mu = [[x / y for x, y in zip(row[:k], reduction.d[1:])] for k, row in enumerate(reduction.lam)]
         self.squares = [y / x for x, y in zip(reduction.d, reduction.d[1:])]
-        self.shadows = [[*map(float, vector.shadow)] for vector in vectors[:self.plain]]
+        self.shadows = [vector.floats for vector in vectors[:self.plain]]
 
     def multiples(self, vector: Vector) -> list[int]:
         """How many times each pivot has a vector's sums in the group."""
@@ -194,6 +227,19 @@ class Step:
         if any(x % self.divisor for x in times) or any(times[pivots:]):
             raise NoVector
         return [x // self.divisor for x in times[:pivots]]
+
+    def clearable(self, vectors: list[Vector]) -> list[Vector]:
+        """A reduced basis of the whole combinations of vectors whose sums in the group whole multiples of the pivots
+        have."""
+        sums = [vector.at(self.group) for vector in vectors]
+        mixed = [[int(i == k) for i in range(len(vectors))] for k in range(len(vectors))]
+        for place, row in enumerate(self.inverse):
+            amounts = [dot(row, one) for one in sums]
+            modulus = abs(self.divisor) if place < len(self.vectors) - self.plain else 0
+            mixed = divisible([(dot(times, amounts), times) for times in mixed], modulus)
+        found = [combined(zip(times, vectors)) for times in mixed]
+        products = [[dot(u.shadow, v.shadow) for v in found] for u in found]
+        return [combined(zip(times, found)) for times in Reduction(products).rows] if len(found) > 1 else found
 
     def cleared(self, vector: Vector) -> Vector:
         """The vector without its sums in the group, and shortened: what is taken off is whole, but found in floating
@@ -208,7 +254,7 @@ class Step:
 
     def nearest(self, vector: Vector, pivots: list[int]) -> list[int]:
         """The multiples of all vectors to take off, those of the pivots given."""
-        shadow = [*map(float, vector.shadow)]
+        shadow = vector.floats
         parts: list[float] = []
         for other, mu in zip(self.shadows, self.mu):
             parts.append(dot(shadow, other) - dot(mu, parts))
@@ -222,6 +268,26 @@ class Step:
                 taken[k] = times
                 parts[:k] = [x - times * y for x, y in zip(parts, self.mu[k])]
         return taken
+
+
+def divisible(numbered: list[tuple[int, list[int]]], modulus: int) -> list[list[int]]:
+    """A basis of the whole combinations of some rows whose numbers come to a multiple of a modulus, or to 0 if that
+    is 0: by Euclid's algorithm."""
+    found: list[list[int]] = []
+    last: tuple[int, list[int]] | None = None
+    for number, row in numbered:
+        while last and number:
+            times = last[0] // number
+            rest = [x - times * y for x, y in zip(last[1], row)]
+            last, (number, row) = (number, row), (last[0] - times * number, rest)
+        if number:
+            last = number, row
+        else:
+            found.append(row)
+    if last and modulus:
+        times = modulus // gcd(modulus, last[0])
+        found.append([times * x for x in last[1]])
+    return found
 
 
 def inverted(columns: Sequence[Sequence[int]], size: int) -> tuple[list[list[int]] | None, int]:
@@ -244,24 +310,24 @@ def inverted(columns: Sequence[Sequence[int]], size: int) -> tuple[list[list[int
     return [row[len(columns):] for row in table], last
 
 
-def parted(group: Sequence[int], vectors: list[Vector]) -> Step:
-    """Vectors with sums in a group, reduced together, as a step.
+def parted(group: Sequence[int], vectors: list[Vector], bits: int) -> tuple[Step, int]:
+    """Vectors with sums in a group, reduced together, as a step; and the bits of the weight with which that was done.
 
     The sums count as a part of a vector's length. Where they weigh enough, the pivots come last.
     """
     products = [[dot(u.shadow, v.shadow) for v in vectors[:k + 1]] for k, u in enumerate(vectors)]
     sums = [vector.at(group) for vector in vectors]
     columns = [*zip(*sums)]
-    bits = 0
     while True:
-        bits += 40
         weighed = [[x + (dot(s, t) << bits) for x, t in zip(row, sums)] for row, s in zip(products, sums)]
         reduction = Reduction(weighed)
         ends = [[dot(times, column) for column in columns] for times in reduction.rows]
         plain = sum(not any(end) for end in ends)
         inverse, divisor = inverted(ends[plain:], len(group))
         if inverse is not None and not any(map(any, ends[:plain])):
-            return Step(group, [combined(zip(times, vectors)) for times in reduction.rows], reduction, inverse, divisor)
+            made = [combined(zip(times, vectors)) for times in reduction.rows]
+            return Step(group, made, reduction, inverse, divisor), bits
+        bits *= 2
 
 
 # The lattice
@@ -286,6 +352,7 @@ class Lattice:
         """A column is a dictionary from rows to amounts. An unknown's length is 1 where none is given."""
         self.columns, self.groups = columns, groups
         self.steps: list[Step] = []
+        self.bits = 0  # of the weight of sums at the last step
         self.basis: list[Vector] = []
         self.group_of = {row: g for g, group in enumerate(groups) for row in group}
         units = []
@@ -327,17 +394,25 @@ class Lattice:
         for vector in taken:
             grew = grows(reached, vector.at(group))
             (first if grew or len(first) < min(6 + bits // 2, TOGETHER) else others).append(vector)
-        step = parted(group, first)
+        step, self.bits = parted(group, first, max(LIGHT, self.bits // 2))
         self.steps.append(step)
         return step.vectors[:step.plain] + [step.cleared(vector) for vector in others]
 
-    def near(self, whole: Sequence[int]) -> list[int]:
-        """A vector of the lattice near a whole one: the whole one's sums are cleared group by group."""
-        sums: dict[int, int] = {}
+    def reaching(self, loads: Sequence[Sums]) -> list[Vector]:
+        """A basis of the whole multiples of some loads that whole vectors clear, with these: each load is one more
+        unknown."""
+        found = [Vector(load, signs(k), unknown=k) for k, load in enumerate(loads, len(self.columns))]
+        for step in self.steps:
+            found = [step.cleared(vector) for vector in step.clearable(found)]
+        return found
+
+    def near(self, whole: Sequence[int], rest: Sums | None = None) -> list[int]:
+        """A vector near a whole one, which with a rest has no sums: those of both are cleared group by group."""
+        sums: dict[int, int] = {**(rest or {})}
         for amount, column in zip(whole, self.columns):
             for row, x in column.items() if amount else ():
                 sums[row] = sums.get(row, 0) + amount * x
-        more = Vector(sums, [0] * SHADOW)
+        more = Vector({row: amount for row, amount in sums.items() if amount}, [0] * SHADOW)
         for step in self.steps:
             more = step.cleared(more)
         return [x + y for x, y in zip(whole, more.unknowns(len(whole)))]

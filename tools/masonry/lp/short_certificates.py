@@ -17,18 +17,23 @@ from masonry.statics import Column, GREATEST, Motion, NotFound, Part, Structure
 SMALL = 60  # so many vectors of a basis can be reduced all together
 ROOM = 2**10  # for the sums of products that `check` adds up
 FINE = 127  # bits of the fractions of given amounts that are used
+FEW = 40  # bits of a scale that mostly is enough
 MORE = 8  # bits by which other forces may need a greater scale
 Made = TypeVar("Made")
+Number = TypeVar("Number", int, Fraction)
 Forces = tuple[int, list[Part]]  # a scale, and the whole parts of all bearings
 
 
-def least(works: Callable[[int], Made | None], most: int = 127) -> Made | None:
+def least(works: Callable[[int], Made | None], most: int = 127, likely: Callable[[], int] | None = None) -> Made | None:
     """What `works` gives at the least scale, a number of bits up to `most`, at which it gives something: about so,
-    since a greater scale nearly always does where a lesser one does. None where it never does. Most need few bits, so
-    the range isn't halved, but a quarter of it is tried."""
+    since a greater scale nearly always does where a lesser one does. None where it never does. `likely` is a function
+    that says which scale that may be, after what was tried last. Without it, since most need few bits, the range isn't
+    halved, but a quarter of it is tried."""
     low, high, found = -1, most, works(most)
     while found is not None and high - low > 1:
-        middle = low + max(1, (high - low) // 4)
+        middle = min(likely(), high - 1) if likely else low
+        if middle <= low:
+            middle = low + max(1, (high - low) // 4)
         other = works(middle)
         low, high, found = (middle, high, found) if other is None else (low, middle, other)
     return found
@@ -36,8 +41,8 @@ def least(works: Callable[[int], Made | None], most: int = 127) -> Made | None:
 
 @dataclass
 class Unknown:
-    """A number of the lattice: what it is of each bearing that it stands for, the amount near which it is looked for,
-    and the whole number from which it counts."""
+    """A number of the lattice: what it is of each bearing that it stands for, and the amount near which it is looked
+    for."""
     bearings: list[int]
     part: Part
     amounts: list[Fraction]
@@ -45,14 +50,22 @@ class Unknown:
     def amount(self) -> Fraction:
         return sum(self.amounts, Fraction(0))
 
-    def base(self) -> int:
-        return round(self.amount())
-
     @cached_property
     def apart(self) -> int:
         """By how much the amount of the first bearing exceeds that of the second, in units of 2^-FINE."""
         first, second = self.amounts
         return round((first - second) * (1 << FINE))
+
+
+Lattices = dict[tuple[tuple[tuple[int, ...], Part], ...], Lattice]  # by the bearings and parts of their unknowns
+
+
+def lattice_of(structure: Structure, found: Sequence[Unknown], kept: Lattices) -> Lattice:
+    """The lattice of forces without a load, made once."""
+    key = tuple((tuple(one.bearings), one.part) for one in found)
+    if key not in kept:
+        kept[key] = Lattice([structure.column(one.bearings[0], one.part) for one in found], structure.blocks)
+    return kept[key]
 
 
 class NoForces(NotFound):
@@ -63,12 +76,13 @@ class Rounding:
     """Forces near given ones, as whole parts of bearings that carry a whole multiple of a load exactly.
 
     The unknowns of the lattice are the parts of the bearings that are in use, of each two numbers or, where it has one
-    edge, one; and the scale. What two bearings of a joint take along it has one line of action, and so it is one
-    unknown, which is parted at the end. So that short vectors are looked for, each unknown counts from the whole number
-    next to the given amount times the scale, and the scale weighs as much as the least room of a force in its cone.
+    edge, one. What two bearings of a joint take along it has one line of action, and so it is one unknown, which is
+    parted at the end. The lattice is that of the forces without a load: it does for all loads, and is kept. The scale
+    is a multiple of the least at which any whole forces carry the load.
     """
 
-    def __init__(self, structure: Structure, amounts: Amounts, load: Sequence[int]) -> None:
+    def __init__(self, structure: Structure, amounts: Amounts, load: Sequence[int], kept: Lattices | None = None
+                 ) -> None:
         self.structure = structure
         used: dict[int, list[Part]] = {}
         parts: dict[int, tuple[Fraction, Fraction]] = {}
@@ -78,36 +92,47 @@ class Rounding:
             a, b = parts.get(edge.bearing, (Fraction(0), Fraction(0)))
             parts[edge.bearing] = a + edge.part[0] * amount, b + edge.part[1] * amount
         self.unknowns = list(unknowns(structure, used, parts))
-        rooms = [self.room(number, parts[number], len(of)) for number, of in used.items()]
-        self.base = [one.base() for one in self.unknowns]
-        # How far the given amounts are from these whole numbers, in units of 2^-FINE.
-        self.fine = [round((one.amount() - base) * (1 << FINE)) for one, base in zip(self.unknowns, self.base)]
+        # The bearings with two edges; and the room of each part, and the given amounts, in units of 2^-FINE.
+        self.wide = {number for number, of in used.items() if len(of) == 2}
+        self.rooms = {number: int(self.room(number, part) * (1 << FINE)) for number, part in parts.items()}
+        self.fine = [round(one.amount() * (1 << FINE)) for one in self.unknowns]
         self.longest = max((int(abs(x)) for part in parts.values() for x in part), default=0).bit_length()
+        self.load = {row: x for row, x in enumerate(load) if x}
+        self.lattice = lattice_of(structure, self.unknowns, {} if kept is None else kept)
+        self.unit = abs(self.reaching()[-1])
         self.bits = 0  # the scale at which forces were found last
-        weight = max(1, int(min(rooms, default=1)))
-        self.lattice = Lattice(self.columns(load), structure.blocks, [1] * len(self.unknowns) + [weight])
+        self.doubled = 0  # how often the least scale must be doubled, after what was tried last
 
-    def columns(self, load: Sequence[int]) -> list[Column]:
-        """What each unknown adds to the rows, and at last the scale."""
-        columns = [self.structure.column(one.bearings[0], one.part) for one in self.unknowns]
-        rest = dict(enumerate(load))
-        for amount, column in zip(self.base, columns):
-            for row, x in column.items():
-                rest[row] += amount * x
-        return [*columns, {row: x for row, x in rest.items() if x}]
+    def reaching(self) -> list[int]:
+        """The least multiple of the load that whole forces carry: their unknowns, and the scale."""
+        if not (found := self.lattice.reaching([self.load])):
+            raise NoVector
+        return found[0].unknowns(len(self.unknowns) + 1)
 
-    def room(self, number: int, part: tuple[Fraction, Fraction], edges: int) -> Fraction:
-        """By how much the numbers of a part may change before it leaves its cone."""
+    def room(self, number: int, part: tuple[Number, Number]) -> Number:
+        """How far a part is inside its cone, in units of its own."""
         bearing, (a, b) = self.structure.bearings[number], part
-        return (bearing.p * a - bearing.q * abs(b)) / (bearing.p + bearing.q) if edges == 2 else a
+        return bearing.p * a - bearing.q * abs(b) if number in self.wide else a
+
+    def doublings(self, parts: Sequence[Part], scale: int) -> int:
+        """How often the least scale is doubled till parts that are as far from the given ones as these at theirs stay
+        in their cones."""
+        needed = max((((scale * room >> FINE) - self.room(number, parts[number]) << FINE) // room
+                      for number, room in self.rooms.items() if room > 0), default=0)
+        return (max(0, needed) // self.unit).bit_length()
+
+    def near(self, scale: int) -> list[int]:
+        """The values of the unknowns that carry the load so many times, near the given ones."""
+        rest = {row: scale * x for row, x in self.load.items()}
+        return self.lattice.near([x * scale >> FINE for x in self.fine], rest)
 
     def at(self, bits: int) -> Forces | None:
         """The scale and the parts of all bearings near 2^bits times the given ones, or None where they leave a cone or
         are too long."""
-        near = [x >> FINE - bits for x in self.fine]
-        *whole, scale = self.lattice.near([*near, 2**bits])
-        parts = self.parted([x + scale * base for x, base in zip(whole, self.base)], scale)
-        if scale <= 0 or not self.structure.admits(parts):
+        scale = self.unit << max(0, bits + 1 - self.unit.bit_length())
+        parts = self.parted(self.near(scale), scale)
+        self.doubled = self.doublings(parts, scale)
+        if not self.structure.admits(parts):
             return None
         common = gcd(scale, *(x for part in parts for x in part))
         if max(scale, *(a for a, _ in parts), 0) > common * GREATEST:
@@ -132,12 +157,24 @@ class Rounding:
 
     def least(self) -> Forces:
         """The scale and the parts at the least scale that works."""
-        found = least(self.at, max(0, 124 - self.longest))
+        first = self.unit.bit_length() - 1
+        most = max(0, 124 - self.longest - first)
+
+        def works(more: int) -> Forces | None:
+            return self.at(first + more)
+
+        found = least(works, min(FEW, most), lambda: self.doubled) or least(works, most, lambda: self.doubled)
         if found is None:
-            if len(self.lattice.basis) <= SMALL:
-                refute(self.lattice, self.base, [len(one.bearings) for one in self.unknowns])
+            if len(self.lattice.basis) < SMALL:
+                self.refute()
             raise NotFound("no forces of 127 bits were found")
         return found
+
+    def refute(self) -> None:
+        """Raises `NoForces` where no whole forces of 127 bits carry a multiple of the load."""
+        size = len(self.unknowns)
+        vectors = [[*vector.unknowns(size), 0] for vector in self.lattice.basis]
+        refute([*vectors, self.reaching()], [len(one.bearings) for one in self.unknowns])
 
 
 def unknowns(structure: Structure, used: dict[int, list[Part]],
@@ -156,17 +193,13 @@ def unknowns(structure: Structure, used: dict[int, list[Part]],
             yield Unknown(pair, (0, 1), [parts[number][1] for number in pair])
 
 
-def refute(lattice: Lattice, base: Sequence[int], counts: Sequence[int], scales: int = 1) -> None:
+def refute(vectors: list[list[int]], counts: Sequence[int], scales: int = 1) -> None:
     """Raises `NoForces` where a reduced basis shows that there are no forces of 127 bits with a first scale that isn't
     0. The last unknowns are the scales; of the others is said how many numbers each stands for the sum of.
 
     A vector that isn't a combination of the first few is at least as long as the least of the others' orthogonal
     parts, after Gram and Schmidt. The scale of forces isn't 0. So the first few may be those of the scale 0.
     """
-    vectors = []
-    for vector in lattice.basis:
-        whole = vector.unknowns(len(counts) + scales)
-        vectors.append([x + whole[len(counts)] * amount for x, amount in zip(whole, base)] + whole[len(counts):])
     vectors.sort(key=squared)
     reduced = Reduction([[dot(u, v) for v in vectors] for u in vectors])
     of_scales = [dot(row, [one[len(counts)] for one in vectors]) for row in reduced.rows]
@@ -180,7 +213,7 @@ def refute(lattice: Lattice, base: Sequence[int], counts: Sequence[int], scales:
         raise NoForces(f"there are no forces of 127 bits: whole forces that balance need {number.bit_length()} or more")
 
 
-def refute_all(structure: Structure) -> None:
+def refute_all(structure: Structure, kept: Lattices) -> None:
     """Raises `NoForces` where no whole forces of 127 bits carry the dead loads together with any multiple of the live
     ones."""
     used: dict[int, list[Part]] = {}
@@ -189,11 +222,11 @@ def refute_all(structure: Structure) -> None:
     if len(structure.edges) - len(structure.dead) > 2 * SMALL:
         return  # more vectors than are reduced all together
     found = list(unknowns(structure, used, {number: (Fraction(0), Fraction(0)) for number in used}))
-    columns = [structure.column(one.bearings[0], one.part) for one in found]
+    lattice = lattice_of(structure, found, kept)
     loads = [{row: x for row, x in enumerate(load) if x} for load in (structure.dead, structure.live)]
-    lattice = Lattice([*columns, *loads], structure.blocks)
-    if len(lattice.basis) <= SMALL:
-        refute(lattice, [0] * len(found), [len(one.bearings) for one in found], 2)
+    basis = [*lattice.basis, *lattice.reaching(loads)]
+    if len(basis) <= SMALL:
+        refute([vector.unknowns(len(found) + 2) for vector in basis], [len(one.bearings) for one in found], 2)
 
 
 @dataclass
@@ -219,10 +252,12 @@ def exact_forces(structure: Structure, amounts: Amounts, times: int = 1) -> Forc
     return scale // common, [(a // common, b // common) for a, b in parts]
 
 
-def short_forces(structure: Structure, amounts: Amounts, load: Sequence[int], tried: Tried | None = None) -> Forces:
-    """A scale and whole parts of all bearings, near given amounts, that carry the scale times a whole load."""
+def short_forces(structure: Structure, amounts: Amounts, load: Sequence[int], tried: Tried | None = None,
+                 kept: Lattices | None = None) -> Forces:
+    """A scale and whole parts of all bearings, near given amounts, that carry the scale times a whole load. The
+    lattices that are made are kept, by the unknowns, for structures with the same bearings."""
     try:
-        rounding = Rounding(structure, amounts, load)
+        rounding = Rounding(structure, amounts, load, kept)
         first = rounding.at(tried.bits) if tried and tried.bits is not None else None
         if first:
             return first

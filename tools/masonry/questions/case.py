@@ -15,8 +15,8 @@ from masonry.console import Refused, quiet
 from masonry.lp import linear
 from masonry.lp.linear import Amounts, Inner, Opening, Raised
 from masonry.lp.programs import NoAnswer
-from masonry.lp.short_certificates import (Forces, NoForces, Tried, exact_forces, forces_lines, motion_lines,
-                                           refute_all, short_forces, short_motion)
+from masonry.lp.short_certificates import (Forces, Lattices, NoForces, Tried, exact_forces, forces_lines,
+                                           motion_lines, refute_all, short_forces, short_motion)
 from masonry.model import Model
 from masonry.numbers import nine_digits, ratio, simplest
 from masonry.questions.results import Collapses, Greatest, Loaded, Shares, Standing, Stands, Unlimited
@@ -46,8 +46,8 @@ def bits(lines: Sequence[str]) -> int:
 class Known:
     """What cases with the same bodies and dead loads share: the table of contacts, forces for these loads, some far
     inside their cones and short ones, whether it is accepted that they stand, how many greatest factors in a row had no
-    certificate, motions that no bearing resists, and at which scales forces were found. Where no certificate is kept
-    they needn't be the least."""
+    certificate, motions that no bearing resists, at which scales forces were found, which needn't be the least where no
+    certificate is kept, and lattices of forces without a load."""
     table: str | None = None
     dead: Amounts | None = None
     inner: Inner | None = None
@@ -56,6 +56,7 @@ class Known:
     misses: int = 0
     motions: list[Motion] = field(default_factory=list)
     tried: dict[str, Tried] = field(default_factory=dict)
+    lattices: Lattices = field(default_factory=dict)
 
 
 class Case:
@@ -164,7 +165,7 @@ class Case:
     def short_dead(self, dead: Amounts) -> Forces:
         if self.known.short is None:
             self.known.short = exact_forces(self.structure, dead) or short_forces(
-                self.structure, self.inner_dead().amounts, self.structure.dead)
+                self.structure, self.inner_dead().amounts, self.structure.dead, kept=self.known.lattices)
         return self.known.short
 
     def stands(self, dead: Amounts) -> Stands:
@@ -216,7 +217,8 @@ class Case:
         live = linear.inner(self.structure, self.structure.live)
         if live is None:
             raise NotFound("no forces for the live loads were found")
-        return short_forces(self.structure, live.amounts, self.structure.live, self.known.tried.get("ray"))
+        return short_forces(self.structure, live.amounts, self.structure.live, self.known.tried.get("ray"),
+                            self.known.lattices)
 
     def greatest(self, top: Raised) -> Greatest:
         """The certificate of the factor itself. No edge on which the motion gains power is in use there, and so all
@@ -238,7 +240,7 @@ class Case:
         if found is None:
             raise NotFound("no forces at the greatest factor were found")
         return short_forces(structure, {k: d * x for k, x in found.amounts.items()}, structure.loads(d, n),
-                            self.known.tried.get("greatest"))
+                            self.known.tried.get("greatest"), self.known.lattices)
 
     # Shares
 
@@ -252,7 +254,7 @@ class Case:
         except (NotFound, ArithmeticError) as fault:
             self.lacks("a certificate that the dead loads stand", fault)
         try:
-            refute_all(self.structure)
+            refute_all(self.structure, self.known.lattices)
             carried = self.nearest("carried", top.factor, self.carried_below(top))
         except NoForces as fault:
             self.lacks("a share carried", fault)
@@ -316,7 +318,7 @@ class Case:
         own = [x + share * y for x, y in zip(self.structure.dead, self.structure.live)]
         times = next((x / y for x, y in zip(load, own) if y), Fraction(1))
         wanted = {k: times * x for k, x in amounts.items() if x}
-        scale, parts = short_forces(self.structure, wanted, load, self.known.tried.get("carried"))
+        scale, parts = short_forces(self.structure, wanted, load, self.known.tried.get("carried"), self.known.lattices)
         return ["stands", *forces_lines(scale, 0, parts)]
 
     def beyond(self, top: Raised, gap: Fraction) -> tuple[Fraction, Motion]:
