@@ -13,6 +13,7 @@ exact. Its unknowns are worked out where they are asked for.
 import random
 import sys
 from array import array
+from collections import defaultdict
 from collections.abc import Iterable, Mapping, Sequence
 from functools import cached_property
 from heapq import heappop, heappush
@@ -99,18 +100,25 @@ def unpacked(number: int) -> list[int]:
 def combined(terms: Iterable[tuple[int, Vector]]) -> Vector:
     """The sum of vectors, each a number of times."""
     made_of = [(times, vector) for times, vector in terms if times]
-    sums: dict[int, int] = {}
+    sums: defaultdict[int, int] = defaultdict(int)
+    size = 0
     for times, vector in made_of:
+        size += abs(times) * vector.size
         for row, amount in vector.sums.items():
-            sums[row] = sums.get(row, 0) + times * amount
-    if sum(abs(times) * vector.size for times, vector in made_of) < 1 << 63:
-        shadow = unpacked(sum(times * vector.packed for times, vector in made_of))
-        shadow = shadow[:min((len(vector.shadow) for _, vector in made_of), default=SHADOW)]
+            sums[row] += times * amount
+    shadow, total = [0] * SHADOW, None
+    if size < 1 << 63:
+        total = 0
+        for times, vector in made_of:
+            total += times * vector.packed
+        shadow = unpacked(total)[:len(made_of[0][1].shadow) if made_of else SHADOW]
     else:
-        shadow = [0] * SHADOW
         for times, vector in made_of:
             shadow = [x + times * y for x, y in zip(shadow, vector.shadow)]
-    return Vector({row: amount for row, amount in sums.items() if amount}, shadow, made_of)
+    found = Vector({row: amount for row, amount in sums.items() if amount}, shadow, made_of)
+    if total is not None:
+        found.packed = total
+    return found
 
 
 # Reduction
@@ -134,13 +142,12 @@ class Reduction:
             if k > self.known:
                 self.take(k)
             if k:
-                self.shorten(k, k - 1)
+                self.shorten(k, range(k - 1, k))
             if k and self.out_of_order(k):
                 self.swap(k)
                 k = max(1, k - 1)
             else:
-                for other in range(k - 2, -1, -1):
-                    self.shorten(k, other)
+                self.shorten(k, range(k - 1))
                 k += 1
 
     def take(self, k: int) -> None:
@@ -154,15 +161,18 @@ class Reduction:
         d[k + 1] = mine[k]
         self.known = k
 
-    def shorten(self, k: int, other: int) -> None:
-        """Takes a multiple of an earlier vector off, so that their projection is at most a half."""
-        mine, d = self.lam[k], self.d[other + 1]
-        if -d <= 2 * mine[other] < d:
-            return
-        q = (2 * mine[other] + d) // (2 * d)
-        self.rows[k] = [x - q * y for x, y in zip(self.rows[k], self.rows[other])]
-        mine[other] -= q * d
-        mine[:other] = [x - q * y for x, y in zip(mine[:other], self.lam[other])]
+    def shorten(self, k: int, others: Sequence[int]) -> None:
+        """Takes multiples of earlier vectors off, the last first, so that their projections are at most a half."""
+        mine, row = self.lam[k], self.rows[k]
+        for other in reversed(others):
+            d, twice = self.d[other + 1], 2 * mine[other]
+            if -d <= twice < d:
+                continue
+            q = (twice + d) // (2 * d)
+            row = [x - q * y for x, y in zip(row, self.rows[other])]
+            mine[other] -= q * d
+            mine[:other] = [x - q * y for x, y in zip(mine, self.lam[other][:other])]
+        self.rows[k] = row
 
     def out_of_order(self, k: int) -> bool:
         """Lovasz's condition, with 3/4, fails."""
@@ -257,7 +267,7 @@ class Step:
         shadow = vector.floats
         parts: list[float] = []
         for other, mu in zip(self.shadows, self.mu):
-            parts.append(dot(shadow, other) - dot(mu, parts))
+            parts.append(sum(map(mul, shadow, other)) - sum(map(mul, mu, parts)))
         parts = [x / y for x, y in zip(parts, self.squares)]
         taken = [0] * self.plain + pivots
         for times, mu in zip(pivots, self.mu[self.plain:]):
