@@ -101,7 +101,7 @@ class Rounding:
         self.lattice = lattice_of(structure, self.unknowns, {} if kept is None else kept)
         self.unit = abs(self.reaching()[-1])
         self.bits = 0  # the scale at which forces were found last
-        self.doubled = 0  # how often the least scale must be doubled, after what was tried last
+        self.multiple = 1  # how many times the least scale should do, after what was tried last
 
     def reaching(self) -> list[int]:
         """The least multiple of the load that whole forces carry: their unknowns, and the scale."""
@@ -114,30 +114,38 @@ class Rounding:
         bearing, (a, b) = self.structure.bearings[number], part
         return bearing.p * a - bearing.q * abs(b) if number in self.wide else a
 
-    def doublings(self, parts: Sequence[Part], scale: int) -> int:
-        """How often the least scale is doubled till parts that are as far from the given ones as these at theirs stay
-        in their cones."""
+    def multiple_for(self, parts: Sequence[Part], scale: int) -> int:
+        """How many times the least scale is enough for parts that are as far from the given ones as these at theirs:
+        they would stay in their cones."""
         needed = max((((scale * room >> FINE) - self.room(number, parts[number]) << FINE) // room
                       for number, room in self.rooms.items() if room > 0), default=0)
-        return (max(0, needed) // self.unit).bit_length()
+        return max(0, needed) // self.unit + 1
 
-    def near(self, scale: int) -> list[int]:
-        """The values of the unknowns that carry the load so many times, near the given ones."""
+    def near(self, scale: int, half: int) -> list[Part]:
+        """Parts that carry the load so many times, near the given ones, which are rounded down after a half, in
+        units of 2^-FINE, or 0 is added."""
         rest = {row: scale * x for row, x in self.load.items()}
-        return self.lattice.near([x * scale >> FINE for x in self.fine], rest)
+        return self.parted(self.lattice.near([x * scale + half >> FINE for x in self.fine], rest), scale)
 
     def at(self, bits: int) -> Forces | None:
         """The scale and the parts of all bearings near 2^bits times the given ones, or None where they leave a cone or
         are too long."""
-        scale = self.unit << max(0, bits + 1 - self.unit.bit_length())
-        parts = self.parted(self.near(scale), scale)
-        self.doubled = self.doublings(parts, scale)
+        found = self.of(self.unit << max(0, bits + 1 - self.unit.bit_length()))
+        if found:
+            self.bits = bits
+        return found
+
+    def of(self, scale: int) -> Forces | None:
+        """The same at a multiple of the least scale, both divided by what divides all."""
+        parts = self.near(scale, 1 << FINE - 1)
+        if not self.structure.admits(parts):
+            parts = self.near(scale, 0)
+        self.multiple = self.multiple_for(parts, scale)
         if not self.structure.admits(parts):
             return None
         common = gcd(scale, *(x for part in parts for x in part))
         if max(scale, *(a for a, _ in parts), 0) > common * GREATEST:
             return None
-        self.bits = bits
         return scale // common, [(a // common, b // common) for a, b in parts]
 
     def parted(self, whole: Sequence[int], scale: int) -> list[Part]:
@@ -163,7 +171,12 @@ class Rounding:
         def works(more: int) -> Forces | None:
             return self.at(first + more)
 
-        found = least(works, min(FEW, most), lambda: self.doubled) or least(works, most, lambda: self.doubled)
+        def likely() -> int:
+            return (self.multiple - 1).bit_length()
+
+        found = least(works, min(FEW, most), likely) or least(works, most, likely)
+        if found and self.unit * self.multiple < found[0]:
+            found = self.of(self.unit * self.multiple) or found
         if found is None:
             if len(self.lattice.basis) < SMALL:
                 self.refute()
