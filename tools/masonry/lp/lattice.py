@@ -258,7 +258,7 @@ class Step:
             taken = self.nearest(vector, self.multiples(vector))
             if any(taken):
                 vector = combined([(1, vector), *((-x, other) for x, other in zip(taken, self.vectors))])
-            if max((abs(x) for x in taken), default=0) < SURE:
+            if -SURE < min(taken, default=0) and max(taken, default=0) < SURE:
                 break
         return vector
 
