@@ -3,7 +3,7 @@
 use Rattle.std.proofs.Common.{◌≡◌, ◌≢◌, refl, sym, ap, subst, ◌∙◌, ℕ, zero, suc, ◌<◌, ◌≤◌, ◌+◌, Bool, true, false}
 use Rattle.std.proofs.Common.{cond, Option, Some, None, arith, add-one}
 use mathlib.Core.Logic.{◌⊎◌, inl, inr}
-use native.Mathlib.Decide.{ℕ_discrete, dec_lt}
+use native.Mathlib.Decide.{ℕ_discrete}
 use lib.Dec.{T, eqb, eqb→eq, eqb_refl}
 pub use Rattle.stack_algebra.specs.Search.{least, first, or_else, only_if, next_round}
 
@@ -70,14 +70,6 @@ first_same (suc n) f g h = λ z. or_else (first_same n f g (λ i l. h i (omega (
 pub first_more : {P : Type 0} (i : ℕ) (f : ℕ → Option P) → first i f ≡ None → f i ≡ None →
     first (i + 1) f ≡ None
 first_more i f h k = ap (λ n. first n f) (add-one i) ∙ ap (λ o. or_else o (f i)) h ∙ k
-
-pub first_over : {P : Type 0} (a b : ℕ) (f : ℕ → Option P) → first a f ≡ None →
-    ((i : ℕ) → a ≤ i → i < b → f i ≡ None) → first b f ≡ None
-first_over a b f h k = first_all-none b f (λ i l. go i l (dec_lt i a))
-  where
-    go : (i : ℕ) → i < b → Dec (i < a) → f i ≡ None
-    go i l (yes d) = first-none a f h i d
-    go i l (no d) = k i (omega (arith, d)) l
 
 -- the first item of two stretches, where the first has none, and where one was found earlier
 pub first_join : {P : Type 0} (a b : ℕ) (f : ℕ → Option P) → first a f ≡ None →

@@ -1,6 +1,5 @@
 pub mod Basics
 pub mod Blocks
-pub mod Listed
 pub mod RowSteps
 pub mod BlockRows
 pub mod Parts
@@ -12,4 +11,3 @@ pub mod RowByRow
 pub mod AtWidest
 mod Refusals
 pub mod SoundProblem
-mod DueRows

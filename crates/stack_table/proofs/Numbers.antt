@@ -1,7 +1,7 @@
 -- The numbers of a problem: below the bound in size, and 0 past its rows and columns.
 use Rattle.std.proofs.Common.{◌≡◌, refl, ap, ◌∙◌, ℕ, zero, suc, ◌+◌, ◌<◌, ◌≤◌, Bool, true, false, cond, eqb, ltb, List}
 use Rattle.std.proofs.Common.{[], ◌∷◌, map, length, get_or, arith, SFits, to_z, of_z, to_z-of_z, ltb-true, le-ltb}
-use Rattle.std.proofs.Common.{ne_eqb, ℤ, pos, Option, None, Some}
+use Rattle.std.proofs.Common.{ne_eqb, ℤ, pos, Option, None, Some, Result, Ok, Err, IfOk, IfErr}
 use Rattle.stack_rational.proofs.Common.{ints, get_or_past, w128}
 use Rattle.std.specs.List.{AllByRecursion}
 use Rattle.std.proofs.lemmas.Int.{fits_signed_from_abs}
@@ -133,3 +133,13 @@ small_fits z h = fits_signed_from_abs w128 z (omega (arith, h))
 
 pub small_back : (z v : ℤ) → z ≡ v → IsBelowBound v → to_z w128 (of_z w128 z) ≡ v
 small_back z v e h = ap (λ t. to_z w128 (of_z w128 t)) e ∙ to_z-of_z (small_fits v h)
+
+-- what follows from what an answer tells, and from what a refusal tells
+pub then_ok : {V E : Type 0} (P Q R : V → Type 0) (r : Result V E) → ((x : V) → P x → Q x → R x) → IfOk r P
+    → IfOk r Q → IfOk r R
+then_ok P Q R (Ok x) f h k = f x h k
+then_ok P Q R (Err e) f h k = tt
+
+pub then_err : {V E : Type 0} (P Q : E → Type 0) (r : Result V E) → ((e : E) → P e → Q e) → IfErr r P → IfErr r Q
+then_err P Q (Ok x) f h = tt
+then_err P Q (Err e) f h = f e h

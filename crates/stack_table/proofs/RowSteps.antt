@@ -1,13 +1,22 @@
 -- The steps of a pivot at one cell: what they write, and where they are too wide.
-use Rattle.std.proofs.Common.{◌≡◌, sym, ap, ◌∙◌, ℕ, Bool, true, false, Some, None, ℤ, pos}
-use Rattle.stack_rational.proofs.Common.{Fraction, of, mul, ordered_fractions, or_else, only_if, first_all-none}
+use Rattle.std.proofs.Common.{◌≡◌, ◌≢◌, refl, sym, ap, ◌∙◌, ℕ, Bool, true, false, Some, None, ℤ, pos}
+use Rattle.stack_rational.proofs.Common.{Fraction, of, mul, inv, ordered_fractions, or_else, only_if, first_all-none}
 use Rattle.stack_rational.proofs.Common.{IsWidth, fraction_fits, is_too_wide, is_zero}
 use Rattle.stack_algebra.proofs.Fractions.{mul_comm, zero_mul}
 use Rattle.stack_rational.specs.declared.exact.Op.TheVariants.{Difference, Product, Quotient}
 use Rattle.stack_rational.specs.TooWide.{op_value}
 use Rattle.stack_table.specs.declared.types.Step.TheVariants.{Divide, Multiply, Subtract}
 use Rattle.stack_table.specs.Spots.{divided, reduced, divide_item, reduce_item, divide_spot, reduce_spot}
-use Rattle.stack_rational.proofs.Fitting.{zero_is, quotient_of_zero, product_of_zero, difference_of_zero}
+use Rattle.stack_rational.proofs.Fitting.{zero_is, quotient_of_zero, quotient_not-zero, product_of_zero}
+use Rattle.stack_rational.proofs.Fitting.{difference_of_zero}
+
+-- a quotient is 0 exactly if what is divided is
+pub quotient_zero : (m : ℤ) → IsWidth m → (x d : Fraction) → d.num ≢ pos 0 → is_zero (mul (inv d) x) ≡ is_zero x
+quotient_zero m w x d h = go (is_zero x) refl
+  where
+    go : (b : Bool) → is_zero x ≡ b → is_zero (mul (inv d) x) ≡ b
+    go true e = ap is_zero (quotient_of_zero m w x d e).0 ∙ e
+    go false e = quotient_not-zero x d e h
 
 module _ (m : ℤ) (f : ℕ → Fraction) (d : Fraction) (row j : ℕ) where
   pub divide_skips : IsWidth m → is_zero (f j) ≡ true →

@@ -4,8 +4,6 @@ pub mod Problem
 pub mod WrittenTable
 pub mod Lent
 pub mod Block
-pub mod Columns
 pub mod Seen
 pub mod Built
 pub mod Sound
-pub mod Due

@@ -2,7 +2,6 @@
 
 ghost use Rattle.std.specs.Prelude.{◌≡◌, ◌++◌, ◌∷◌, [], ℕ, ◌*◌, ◌<◌, ◌≤◌, length, map, pos, true, false, None, Some};
 ghost use Rattle.std.specs.Prelude.{IfOk, IfErr, OnOk, OnErr};
-ghost use Rattle.std.specs.List.Sorted.{IsStrictlyIncreasing};
 ghost use Rattle.stack_algebra.proofs.Fractions.{of};
 ghost use Rattle.stack_algebra.proofs.OrderedFractions.{ordered_fractions};
 ghost use Rattle.stack_algebra.specs.Search.{first};
@@ -12,7 +11,6 @@ ghost use Rattle.stack_table.specs.Table.{plain, width};
 ghost use Rattle.stack_table.specs.Block.{cell_of, item_value, IsBlock, Grows};
 ghost use Rattle.stack_table.specs.Problem.{turned};
 ghost use Rattle.stack_table.specs.Lent.{entry_in, IsProblem, shape_of_problem, problem_of, TellsFirst};
-ghost use Rattle.stack_table.specs.Due.{IsZeroBefore, AreDue};
 ghost use Rattle.stack_whole.specs.Limits.{IsBelowBound};
 ghost use Rattle.stack_table.specs.WrittenTable.{written_number, number_place, first_row, row_place};
 ghost use Rattle.stack_table.specs.WrittenTable.{less_all, partial_place};
@@ -33,19 +31,6 @@ fn entry_in(entries: &[Entry], row: usize) -> i128
         }
     }
     0
-}
-
-/// The first row from `from` on in which an entry stands; `rows` where none does.
-fn next_entry(entries: &[Entry], from: usize, rows: usize) -> usize
-    requires { IsStrictlyIncreasing (map (λ x. x.row) entries.now) }
-    ensures { (i : ℕ) → from ≤ i → i < result → entry_in entries.now i ≡ pos 0 }
-{
-    for entry in entries {
-        if from <= entry.row {
-            return entry.row;
-        }
-    }
-    rows
 }
 
 /// The first artificial column.
@@ -84,22 +69,6 @@ fn entry(p: &Problem, i: usize, j: usize) -> i128
     }
 }
 
-/// The first row from `from` on in which a column that isn't artificial has an entry; `rows` where it has none.
-fn next_in(p: &Problem, from: usize, j: usize) -> usize
-    requires problem { IsProblem p.now }
-    requires j_in { j < plain (shape_of_problem p.now) }
-    ensures { (i : ℕ) → from ≤ i → i < result → (problem_of p.now).entry i j ≡ pos 0 }
-{
-    if j < p.contact.len() {
-        next_entry(p.contact[j].entries.as_slice(), from, p.rows)
-    } else {
-        match &p.factor {
-            Some(factor) => next_entry(factor.entries.as_slice(), from, p.rows),
-            None => from,
-        }
-    }
-}
-
 /// A number of a row that is flipped, or isn't.
 fn turned(flipped: bool, number: i128) -> i128
     requires { IsBelowBound number }
@@ -126,41 +95,12 @@ fn number(p: &Problem, artificial: usize, i: usize, j: usize) -> i128
     turned(flipped, p.right[i])
 }
 
-/// The next row, from row `i` on, with an entry in the column: the one known before, unless it lies before row `i`.
-fn next_due(p: &Problem, artificial: usize, due: usize, i: usize, j: usize) -> usize
-    requires problem { IsProblem p.now }
-    requires artificial { artificial ≡ plain (shape_of_problem p.now) }
-    requires due { IsZeroBefore (problem_of p.now) i j due }
-    ensures { IsZeroBefore (problem_of p.now) i j result }
-{
-    if i <= due {
-        return due;
-    }
-    if j < artificial {
-        return next_in(p, i, j);
-    }
-    if j - artificial < i {
-        return p.rows;
-    }
-    if j - artificial < p.rows {
-        return j - artificial;
-    }
-    i
-}
-
-/// The cell in a row and a column: 0 before the row that is due.
-fn first_cell<S: Exact>(
-    p: &Problem,
-    artificial: usize,
-    due: usize,
-    i: usize,
-    j: usize,
-) -> Result<S, OpWide>
+/// The cell in a row and a column.
+fn first_cell<S: Exact>(p: &Problem, artificial: usize, i: usize, j: usize) -> Result<S, OpWide>
     requires problem { IsProblem p.now }
     requires artificial { artificial ≡ plain (shape_of_problem p.now) }
     requires i_in { i < p.now.rows }
     requires j_in { j < width (shape_of_problem p.now) }
-    requires due { IsZeroBefore (problem_of p.now) i j due }
     ensures ok { IfOk result (λ r. S.exact r ≡ first_row ordered_fractions (problem_of p.now) i j) }
     ensures small { IfOk result (λ r. fraction_fits S.MAX (S.exact r) ≡ true) }
     ensures fits { IfOk result (λ r.
@@ -168,9 +108,6 @@ fn first_cell<S: Exact>(
     ensures wide { IfErr result (λ e.
         number_place ordered_fractions (is_too_wide S.MAX) (problem_of p.now) i j ≡ Some (AtPlace i j)) }
 {
-    if i < due {
-        return Ok(S::zero());
-    }
     S::from_whole(number(p, artificial, i, j))
 }
 
@@ -186,11 +123,10 @@ fn push_cell<S: Exact>(cells: &mut Vec<S>, marks: &mut Vec<bool>, cell: S) -> Re
     Ok(())
 }
 
-/// Puts the cells of a row, with the row that is due in each column from this one on.
+/// Puts the cells of a row.
 pub fn push_row<S: Exact>(
     cells: &mut Vec<S>,
     marks: &mut Vec<bool>,
-    dues: &mut [usize],
     p: &Problem,
     artificial: usize,
     i: usize,
@@ -199,9 +135,6 @@ pub fn push_row<S: Exact>(
     requires artificial { artificial ≡ plain (shape_of_problem p.now) }
     requires i_in { i < p.now.rows }
     requires block { IsBlock S.MAX S.exact cells.old.items marks.old.items }
-    requires long { length dues.old ≡ width (shape_of_problem p.now) }
-    requires dues { AreDue (problem_of p.now) i dues.old }
-    ensures dues { AreDue (problem_of p.now) i dues.new }
     ensures block { OnOk result (IsBlock S.MAX S.exact cells.new.items marks.new.items) }
     ensures grown { OnOk result (Grows S.exact cells.old.items cells.new.items (width (shape_of_problem p.now))
         (first_row ordered_fractions (problem_of p.now) i)) }
@@ -210,9 +143,7 @@ pub fn push_row<S: Exact>(
         TellsFirst e (row_place ordered_fractions (is_too_wide S.MAX) (problem_of p.now) i)) }
 {
     for j in 0..artificial + p.rows + 1 {
-        let due = next_due(p, artificial, dues[j], i, j);
-        dues[j] = due;
-        let cell = match first_cell(p, artificial, due, i, j) {
+        let cell = match first_cell(p, artificial, i, j) {
             Ok(cell) => cell,
             Err(_) => return Err(BuildError::Wide { row: i, column: j }),
         };
@@ -224,33 +155,8 @@ pub fn push_row<S: Exact>(
     Ok(())
 }
 
-/// A difference less one more cell. One of 0 is skipped by its mark.
-fn less_cell<S: Exact>(sum: S, cells: &[S], marks: &[bool], at: usize) -> Result<S, OpWide>
-    requires block { IsBlock S.MAX S.exact cells.now marks.now }
-    requires at_in { at < length cells.now }
-    requires sum { fraction_fits S.MAX (S.exact sum) ≡ true }
-    ensures ok { IfOk result (λ r. S.exact r
-        ≡ op_value op.Difference (S.exact sum) (item_value S.exact cells.now at)) }
-    ensures fits { IfOk result (λ r.
-        is_too_wide S.MAX op.Difference (S.exact sum) (item_value S.exact cells.now at) ≡ false) }
-    ensures wide { IfErr result (λ e.
-        is_too_wide S.MAX op.Difference (S.exact sum) (item_value S.exact cells.now at) ≡ true) }
-{
-    if marks[at] {
-        return Ok(sum);
-    }
-    sum.difference(cells[at])
-}
-
-/// 0 less the cells of a column, row by row.
-fn less_column<S: Exact>(
-    cells: &[S],
-    marks: &[bool],
-    rows: usize,
-    width: usize,
-    column: usize,
-) -> Result<S, OpWide>
-    requires block { IsBlock S.MAX S.exact cells.now marks.now }
+/// Minus the sum of the cells of a column, one after the other.
+fn less_column<S: Exact>(cells: &[S], rows: usize, width: usize, column: usize) -> Result<S, OpWide>
     requires room { rows * width ≤ length cells.now }
     requires column_in { column < width }
     ensures ok { IfOk result (λ r. S.exact r
@@ -263,7 +169,7 @@ fn less_column<S: Exact>(
 {
     let mut sum = S::zero();
     for i in 0..rows {
-        sum = less_cell(sum, cells, marks, i * width + column)?;
+        sum = sum.difference(cells[i * width + column])?;
     }
     Ok(sum)
 }
@@ -271,13 +177,11 @@ fn less_column<S: Exact>(
 /// The cell of the objective row in a column, over the rows that are there.
 fn objective_cell<S: Exact>(
     cells: &[S],
-    marks: &[bool],
     p: &Problem,
     artificial: usize,
     column: usize,
 ) -> Result<S, OpWide>
     requires problem { IsProblem p.now }
-    requires block { IsBlock S.MAX S.exact cells.now marks.now }
     requires artificial { artificial ≡ plain (shape_of_problem p.now) }
     requires room { p.now.rows * width (shape_of_problem p.now) ≤ length cells.now }
     requires column_in { column < width (shape_of_problem p.now) }
@@ -293,7 +197,7 @@ fn objective_cell<S: Exact>(
     if is_artificial(p, artificial, column) {
         return Ok(S::zero());
     }
-    let cell = less_column(cells, marks, p.rows, artificial + p.rows + 1, column)?;
+    let cell = less_column(cells, p.rows, artificial + p.rows + 1, column)?;
     Ok(cell)
 }
 
@@ -318,7 +222,7 @@ pub fn push_objective<S: Exact>(
         (shape_of_problem p.now) (cell_of S.exact (width (shape_of_problem p.now)) cells.old.items))) }
 {
     for j in 0..artificial + p.rows + 1 {
-        let cell = match objective_cell(cells.as_slice(), marks.as_slice(), p, artificial, j) {
+        let cell = match objective_cell(cells.as_slice(), p, artificial, j) {
             Ok(cell) => cell,
             Err(_) => return Err(BuildError::Wide {
                 row: p.rows,

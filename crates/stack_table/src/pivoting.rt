@@ -12,38 +12,36 @@ use crate::types::PivotWide;
 use stack_rational::Exact;
 
 /// A pivot at a row and a column of a block whose objective row has the number `rows`: the row is divided, each
-/// other row is reduced. `columns` is room for the columns in which the row isn't 0, one for each column.
+/// other row is reduced.
 pub fn pivot_block<S: Exact>(
     cells: &mut [S],
     marks: &mut [bool],
-    columns: &mut [usize],
+    width: usize,
     rows: usize,
     row: usize,
     column: usize,
 ) -> Result<(), PivotWide>
-    requires whole { length cells.old ≡ suc rows * length columns.old }
+    requires whole { length cells.old ≡ suc rows * width }
     requires row_in { row < rows }
-    requires column_in { column < length columns.old }
+    requires column_in { column < width }
     requires block { IsBlock S.MAX S.exact cells.old marks.old }
-    requires cell { (cell_of S.exact (length columns.old) cells.old row column).num ≢ pos 0 }
+    requires cell { (cell_of S.exact width cells.old row column).num ≢ pos 0 }
     ensures block { IsBlock S.MAX S.exact cells.new marks.new }
-    ensures ok { OnOk result ((i j : ℕ) → cell_of S.exact (length columns.old) cells.new i j
-        ≡ next ordered_fractions (cell_of S.exact (length columns.old) cells.old) row column i j) }
+    ensures ok { OnOk result ((i j : ℕ) → cell_of S.exact width cells.new i j
+        ≡ next ordered_fractions (cell_of S.exact width cells.old) row column i j) }
     ensures wide { MatchResult result
-        (λ _. cells_spot ordered_fractions (is_too_wide S.MAX) (suc rows) (length columns.old)
-        (cell_of S.exact (length columns.old) cells.old) row column ≡ None)
-        (λ e. cells_spot ordered_fractions (is_too_wide S.MAX) (suc rows) (length columns.old)
-        (cell_of S.exact (length columns.old) cells.old) row column ≡ Some e) }
+        (λ _. cells_spot ordered_fractions (is_too_wide S.MAX) (suc rows) width
+        (cell_of S.exact width cells.old) row column ≡ None)
+        (λ e. cells_spot ordered_fractions (is_too_wide S.MAX) (suc rows) width
+        (cell_of S.exact width cells.old) row column ≡ Some e) }
 {
-    let width = columns.len();
     let start = row * width;
     let (above, rest) = cells.split_at_mut(start);
     let (own, below) = rest.split_at_mut(width);
     let (marks_above, marks_rest) = marks.split_at_mut(start);
-    let (own_marks, marks_below) = marks_rest.split_at_mut(width);
+    let (_, marks_below) = marks_rest.split_at_mut(width);
     let divisor = own[column];
-    let count = divide_row(own, own_marks, columns, divisor, row)?;
-    let listed = &columns[..count];
-    reduce_rows(above, marks_above, own, listed, column, 0, row)?;
-    reduce_rows(below, marks_below, own, listed, column, row + 1, rows - row)
+    divide_row(own, divisor, row)?;
+    reduce_rows(above, marks_above, own, column, 0, row)?;
+    reduce_rows(below, marks_below, own, column, row + 1, rows - row)
 }

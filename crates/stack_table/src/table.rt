@@ -26,13 +26,13 @@ pub struct Table<S: Exact> {
     basic: Vec<usize>,
     /// Whether each row was flipped.
     flipped: Vec<bool>,
-    /// Room for a list of columns, one for each column and the right side.
-    listed: Vec<usize>,
+    /// How many cells a row has.
+    row_length: usize,
     rows: usize,
     contacts: usize,
     has_factor: bool,
-    ghost wide: { length listed.items ≡ width (shape_of rows contacts has_factor) },
-    ghost whole: { length cells.items ≡ suc rows * length listed.items },
+    ghost wide: { row_length ≡ width (shape_of rows contacts has_factor) },
+    ghost whole: { length cells.items ≡ suc rows * row_length },
     ghost block: { IsBlock S.MAX S.exact cells.items marks.items },
     ghost basics: { length basic.items ≡ rows },
     ghost basics_in: { (i : ℕ) → i < rows →
@@ -66,19 +66,10 @@ impl<S: Exact> Table<S> {
         let size = (p.rows + 1) * width;
         let mut cells: Vec<S> = Vec::with_capacity(alloc, size)?;
         let mut marks: Vec<bool> = Vec::with_capacity(alloc, size)?;
-        // while the rows are put, the row that is due in each column
-        let mut listed: Vec<usize> = Vec::from_elem(alloc, 0, width)?;
         let mut basic: Vec<usize> = Vec::with_capacity(alloc, p.rows)?;
         let mut flipped: Vec<bool> = Vec::with_capacity(alloc, p.rows)?;
         for i in 0..p.rows {
-            push_row(
-                &mut cells,
-                &mut marks,
-                listed.as_mut_slice(),
-                p,
-                artificial,
-                i,
-            )?;
+            push_row(&mut cells, &mut marks, p, artificial, i)?;
             basic.push(artificial + i)?;
             flipped.push(p.right[i] < 0)?;
         }
@@ -88,7 +79,7 @@ impl<S: Exact> Table<S> {
             marks,
             basic,
             flipped,
-            listed,
+            row_length: width,
             rows: p.rows,
             contacts: p.contact.len(),
             has_factor: p.factor.is_some(),
@@ -106,7 +97,7 @@ impl<S: Exact> Table<S> {
     pub fn columns(&self) -> usize
         ensures { result ≡ columns (shape_of_table self.now) }
     {
-        self.listed.len() - 1
+        self.row_length - 1
     }
 
     /// The columns before the artificial ones.
@@ -136,7 +127,7 @@ impl<S: Exact> Table<S> {
         requires j_in { j ≤ columns (shape_of_table self.now) }
         ensures { S.exact result ≡ (table_of self.now).cell i j }
     {
-        self.cells[i * self.listed.len() + j]
+        self.cells[i * self.row_length + j]
     }
 
     /// The basic column of a row.
@@ -198,7 +189,7 @@ impl<S: Exact> Table<S> {
         pivot_block(
             self.cells.as_mut_slice(),
             self.marks.as_mut_slice(),
-            self.listed.as_mut_slice(),
+            self.row_length,
             self.rows,
             row,
             column,
@@ -218,7 +209,7 @@ impl<S: Exact> Table<S> {
             self.cells.as_mut_slice(),
             self.marks.as_mut_slice(),
             self.rows,
-            self.listed.len(),
+            self.row_length,
         );
     }
 
@@ -236,7 +227,7 @@ impl<S: Exact> Table<S> {
             self.cells.as_mut_slice(),
             self.marks.as_mut_slice(),
             self.rows,
-            self.listed.len(),
+            self.row_length,
             self.contacts,
             row,
         );

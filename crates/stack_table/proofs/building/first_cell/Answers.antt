@@ -1,26 +1,12 @@
-use Rattle.std.proofs.Common.{◌≡◌, ap, subst, ◌∙◌, ℤ, pos, not, true, false, arith, IfOk, IfErr, unsigned_abs, le-leb}
-use Rattle.stack_rational.proofs.Common.{of, only_if, fraction_fits, is_too_wide, is_within}
+use Rattle.std.proofs.Common.{◌≡◌, ap, subst, ◌∙◌, ℤ, true, false, IfOk, IfErr}
+use Rattle.stack_rational.proofs.Common.{of, only_if, fraction_fits, is_too_wide}
 use Rattle.stack_rational.specs.declared.exact.Op.TheVariants.{Whole}
-use Rattle.stack_rational.proofs.Fitting.{zero_fits, whole_answers}
-use Rattle.stack_rational.proofs.WideWholes.{num_of}
+use Rattle.stack_rational.proofs.Fitting.{whole_answers}
 use Rattle.stack_table.specs.declared.problem.BuildError.TheVariants.{Wide}
 use Rattle.stack_table.specs.Lent.{problem_of}
 use Rattle.stack_table.specs.WrittenTable.{written_number}
-use Rattle.stack_table.proofs.Numbers.{number_small, small_back}
-use Rattle.stack_table.proofs.DueRows.{then_ok, then_err}
+use Rattle.stack_table.proofs.Numbers.{number_small, small_back, then_ok, then_err}
 use Rattle.stack_table.proofs.building.first_cell.Goals as goal
-
-pub returns-then-i-due-clause-small : goal.returns-then-i-due-clause-small
-returns-then-i-due-clause-small g c = ap (fraction_fits g.S.Exact.MAX) c.zero.ensures
-    ∙ zero_fits g.S.Exact.MAX g.met.S.Exact.max_law
-
-pub returns-then-i-due-clause-fits : goal.returns-then-i-due-clause-fits
-returns-then-i-due-clause-fits g c =
-    let m = g.S.Exact.MAX in
-    let zero : is_within m (of (pos 0)).num ≡ true = ap (is_within m) (num_of (pos 0))
-    ∙ le-leb 0 (unsigned_abs m) (omega arith) in
-    ap (λ b. only_if b (Wide c.args.i c.args.j)) (ap (λ z. is_too_wide m Whole (of z) (of z))
-    (c.requires.due c.args.i (omega arith) c.if-i-due.true) ∙ ap not zero)
 
 pub returns-clause-ok : goal.returns-clause-ok
 returns-clause-ok g c =

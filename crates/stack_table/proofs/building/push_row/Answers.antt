@@ -5,29 +5,13 @@ use Rattle.stack_table.specs.Block.{Grows}
 use Rattle.stack_table.specs.Lent.{problem_of}
 use Rattle.stack_table.specs.WrittenTable.{first_row, number_place}
 use Rattle.stack_table.proofs.Growing.{grown_more}
-use Rattle.stack_table.proofs.DueRows.{due_set}
 use Rattle.stack_table.proofs.building.push_row.Goals as goal
-
-pub next_due-due-requires-clause-due : goal.next_due-due-requires-clause-due
-next_due-due-requires-clause-due g c = c.loop-j.invariant.dues c.loop-j.j
-
-pub returns-in-Err-clause-dues : goal.returns-in-Err-clause-dues
-returns-in-Err-clause-dues g c = due_set (problem_of c.args.p.now) c.args.i c.loop-j.dues c.loop-j.j
-    c.next_due-due.result
-    (omega (arith, c.loop-j-test.true, c.requires.artificial, c.requires.long, c.loop-j.auto.dues))
-    c.loop-j.invariant.dues c.next_due-due.ensures
 
 pub returns-in-Err-clause-wide : goal.returns-in-Err-clause-wide
 returns-in-Err-clause-wide g c =
     let P = problem_of c.args.p.now in
     first_found (width P.shape) c.loop-j.j (number_place ordered_fractions (is_too_wide g.S.Exact.MAX) P c.args.i) _
     (omega (arith, c.loop-j-test.true, c.requires.artificial)) c.loop-j.invariant.none c.in-Err.ensures.wide
-
-pub returns-in-Err-push_cell-clause-dues : goal.returns-in-Err-push_cell-clause-dues
-returns-in-Err-push_cell-clause-dues g c = due_set (problem_of c.args.p.now) c.args.i c.loop-j.dues c.loop-j.j
-    c.next_due-due.result
-    (omega (arith, c.loop-j-test.true, c.requires.artificial, c.requires.long, c.loop-j.auto.dues))
-    c.loop-j.invariant.dues c.next_due-due.ensures
 
 pub loop-j-preserved : goal.loop-j-preserved
 loop-j-preserved g c =
@@ -40,9 +24,6 @@ loop-j-preserved g c =
       grown = grown_more g.S.Exact.exact m c.args.cells.now.items c.loop-j.cells.items
           c.push_cell.new.cells.items j _
           c.in-Ok.cell c.loop-j.invariant.grown c.in-Ok-push_cell.ensures.ok c.in-Ok.ensures.ok;
-      dues = due_set P i c.loop-j.dues j c.next_due-due.result
-          (omega (arith, c.loop-j-test.true, c.requires.artificial, c.requires.long, c.loop-j.auto.dues))
-          c.loop-j.invariant.dues c.next_due-due.ensures;
       none = first_more j (number_place ordered_fractions (is_too_wide m) P i) c.loop-j.invariant.none
           c.in-Ok.ensures.fits;
     }
@@ -59,22 +40,11 @@ pub loop-j-init : goal.loop-j-init
 loop-j-init g c = record {
   block = c.requires.block;
   grown = record { longer = omega arith; kept = λ k l. refl; put = λ k l. absurd (omega (arith, l)) };
-  dues = c.requires.dues;
   none = refl;
 }
 
-pub bounds-dues-j : goal.bounds-dues-j
-bounds-dues-j g c = omega (arith, c.loop-j-test.true, c.requires.artificial, c.requires.long, c.loop-j.auto.dues)
-
-pub bounds-dues-j-in-loop-j : goal.bounds-dues-j-in-loop-j
-bounds-dues-j-in-loop-j g c =
-    omega (arith, c.loop-j-test.true, c.requires.artificial, c.requires.long, c.loop-j.auto.dues)
-
 pub first_cell-requires-clause-j_in : goal.first_cell-requires-clause-j_in
 first_cell-requires-clause-j_in g c = omega (arith, c.loop-j-test.true, c.requires.artificial)
-
-pub first_cell-requires-clause-due : goal.first_cell-requires-clause-due
-first_cell-requires-clause-due g c = c.next_due-due.ensures
 
 pub push_cell-requires-clause-fits : goal.push_cell-requires-clause-fits
 push_cell-requires-clause-fits g c = c.in-Ok.ensures.small

@@ -1,16 +1,22 @@
-use Rattle.std.proofs.Common.{◌≡◌, refl, sym, ap, ◌∙◌, ℕ, ◌<◌, ◌≤◌, length, set, true, false, arith}
+use Rattle.std.proofs.Common.{◌≡◌, refl, sym, ap, ◌∙◌, ℕ, ◌<◌, ◌≤◌, length, set, true, arith}
 use Rattle.stack_rational.proofs.Common.{dec_lt, Fraction, mul, inv, ordered_fractions, first_found, first_more}
-use Rattle.stack_rational.proofs.Common.{is_too_wide, fraction_fits, is_zero, get_or_default, not-false}
+use Rattle.stack_rational.proofs.Common.{is_too_wide, fraction_fits, is_zero, not-false}
 use Rattle.stack_rational.specs.declared.exact.Op.TheVariants.{Quotient}
-use Rattle.stack_table.specs.Block.{item_value, mark_at}
+use Rattle.stack_table.specs.Block.{item_value}
 use Rattle.stack_table.specs.Spots.{divided, divide_item, divide_spot}
-use Rattle.stack_rational.proofs.Fitting.{is_zero-of, quotient_not-zero}
+use Rattle.stack_rational.proofs.Fitting.{is_zero-of}
 use Rattle.stack_table.proofs.Blocks.{value_at-past, value_at-index, value_at-set_same, value_at-set_other, block_kept}
 use Rattle.stack_table.proofs.Blocks.{written_done, written_rest}
-use Rattle.stack_table.proofs.Listed.{listed_skip, listed_more}
-use Rattle.stack_table.proofs.RowSteps.{divide_skips, divide_too_wide, divide_goes}
+use Rattle.stack_table.proofs.RowSteps.{quotient_zero, divide_skips, divide_too_wide, divide_goes}
 use Rattle.stack_table.proofs.rows.divide_row.Goals as goal
-use Rattle.stack_table.proofs.rows.divide_row.Goals.{then-not-marks-j+in-Ok, else-not-marks-j}
+
+pub loop-j-init : goal.loop-j-init
+loop-j-init g c = record {
+  block = λ marks h. h;
+  done = λ k l. absurd (omega (arith, l));
+  rest = λ k l. refl;
+  none = refl;
+}
 
 pub returns-in-Err-clause-wide : goal.returns-in-Err-clause-wide
 returns-in-Err-clause-wide g c =
@@ -28,69 +34,36 @@ returns-in-Err-clause-wide g c =
     (divide_too_wide m old d c.args.row j (ap (λ v. is_too_wide m Quotient v d) cell ∙ c.in-Err.ensures.wide))
 
 pub loop-j-preserved : goal.loop-j-preserved
-loop-j-preserved g c = elim c.if-not-marks-j.branch [
-  | then-not-marks-j+in-Ok w ↦
-      let e = g.S.Exact.exact in
-      let m = g.S.Exact.MAX in
-      let old = item_value e c.args.cells.now in
-      let d = e c.args.divisor in
-      let j = c.loop-j.j in
-      let i = c.loop-j.invariant in
-      let x = w.index-cells-j.result in
-      let y = w.in-Ok.cell in
-      let lt : j < length c.loop-j.cells = omega (arith, c.loop-j.auto.cells, c.loop-j-test.true) in
-      let cell = value_at-index e c.loop-j.cells j x lt w.index-cells-j.is in
-      let first_cell = sym (i.rest j (omega arith)) ∙ cell in
-      let mark : mark_at c.args.marks.now j ≡ false =
-      get_or_default c.args.marks.now j true false (omega (arith, lt, i.block.same))
-      ∙ w.if-not-marks-j.true in
-      rw (w.cells-is, w.columns-is, w.count-is) (record {
-        count = omega (arith, i.count);
-        block = block_kept e m c.loop-j.cells c.args.marks.now j y lt i.block
-            (mark ∙ sym (ap is_zero w.in-Ok.ensures.ok
-            ∙ quotient_not-zero (e x) d (ap is_zero (sym cell) ∙ sym (i.block.marked j)
-            ∙ mark) c.requires.divisor))
-            (ap (fraction_fits m) w.in-Ok.ensures.ok ∙ not-false _ w.in-Ok.ensures.fits);
-        done = λ k l. written_done (divided ordered_fractions old d) old (item_value e c.loop-j.cells)
-            (item_value e (set c.loop-j.cells j y)) j j i.done i.rest
-            (λ k a b. absurd (omega (arith, a, b)))
-            (value_at-set_same e c.loop-j.cells j y lt ∙ w.in-Ok.ensures.ok
-            ∙ ap (mul (inv d)) (sym first_cell))
-            (λ k n. value_at-set_other e c.loop-j.cells j k y n) k (omega (arith, l));
-        rest = λ k l. written_rest old (item_value e c.loop-j.cells)
-            (item_value e (set c.loop-j.cells j y)) j j i.rest (omega arith)
-            (λ k n. value_at-set_other e c.loop-j.cells j k y n) k (omega (arith, l));
-        none = first_more j (divide_item ordered_fractions (is_too_wide m) old d c.args.row) i.none
-            (divide_goes m old d c.args.row j (ap (λ v. is_too_wide m Quotient v d) first_cell
-            ∙ w.in-Ok.ensures.fits));
-        listed = listed_more (mark_at c.args.marks.now) c.loop-j.columns c.loop-j.count j
-            (omega (arith, i.count, lt, c.loop-j.auto.cells, c.loop-j.auto.columns, c.requires.room))
-            i.listed;
-      })
-  | else-not-marks-j w ↦
-      let e = g.S.Exact.exact in
-      let m = g.S.Exact.MAX in
-      let old = item_value e c.args.cells.now in
-      let d = e c.args.divisor in
-      let j = c.loop-j.j in
-      let i = c.loop-j.invariant in
-      let lt : j < length c.args.marks.now = omega (arith, c.loop-j-test.true, c.requires.block.same) in
-      let mark : mark_at c.args.marks.now j ≡ true = get_or_default c.args.marks.now j true false lt
-      ∙ w.if-not-marks-j.false in
-      let s = divide_skips m old d c.args.row j g.met.S.Exact.max_law
-      (ap is_zero (sym (i.rest j (omega arith))) ∙ sym (i.block.marked j) ∙ mark) in
-      rw (w.cells-is, w.columns-is, w.count-is) (record {
-        count = omega (arith, i.count);
-        block = i.block;
-        done = λ k l. written_done (divided ordered_fractions old d) old (item_value e c.loop-j.cells)
-            (item_value e c.loop-j.cells) j j i.done i.rest
-            (λ k a b. absurd (omega (arith, a, b))) (i.rest j (omega arith) ∙ sym s.0) (λ k n. refl) k
-            (omega (arith, l));
-        rest = λ k l. i.rest k (omega (arith, l));
-        none = first_more j (divide_item ordered_fractions (is_too_wide m) old d c.args.row) i.none s.1;
-        listed = listed_skip (mark_at c.args.marks.now) c.loop-j.columns c.loop-j.count j i.listed mark;
-      })
-]
+loop-j-preserved g c =
+    let e = g.S.Exact.exact in
+    let m = g.S.Exact.MAX in
+    let old = item_value e c.args.cells.now in
+    let d = e c.args.divisor in
+    let j = c.loop-j.j in
+    let i = c.loop-j.invariant in
+    let x = c.index-cells-j.result in
+    let y = c.in-Ok.cell in
+    let lt : j < length c.loop-j.cells = omega (arith, c.loop-j.auto.cells, c.loop-j-test.true) in
+    let cell = value_at-index e c.loop-j.cells j x lt c.index-cells-j.is in
+    let first_cell = sym (i.rest j (omega arith)) ∙ cell in
+    record {
+      block = λ marks h. block_kept e m c.loop-j.cells marks j y lt (i.block marks h)
+          ((i.block marks h).marked j ∙ ap is_zero cell
+          ∙ sym (ap is_zero c.in-Ok.ensures.ok ∙ quotient_zero m g.met.S.Exact.max_law (e x) d c.requires.divisor))
+          (ap (fraction_fits m) c.in-Ok.ensures.ok ∙ not-false _ c.in-Ok.ensures.fits);
+      done = λ k l. written_done (divided ordered_fractions old d) old (item_value e c.loop-j.cells)
+          (item_value e (set c.loop-j.cells j y)) j j i.done i.rest
+          (λ k a b. absurd (omega (arith, a, b)))
+          (value_at-set_same e c.loop-j.cells j y lt ∙ c.in-Ok.ensures.ok
+          ∙ ap (mul (inv d)) (sym first_cell))
+          (λ k n. value_at-set_other e c.loop-j.cells j k y n) k (omega (arith, l));
+      rest = λ k l. written_rest old (item_value e c.loop-j.cells)
+          (item_value e (set c.loop-j.cells j y)) j j i.rest (omega arith)
+          (λ k n. value_at-set_other e c.loop-j.cells j k y n) k (omega (arith, l));
+      none = first_more j (divide_item ordered_fractions (is_too_wide m) old d c.args.row) i.none
+          (divide_goes m old d c.args.row j (ap (λ v. is_too_wide m Quotient v d) first_cell
+          ∙ c.in-Ok.ensures.fits));
+    }
 
 pub returns-clause-ok : goal.returns-clause-ok
 returns-clause-ok g c = λ j. go j (dec_lt j c.loop-j.j)
@@ -118,18 +91,11 @@ returns-clause-wide g c =
     ap (λ n. divide_spot ordered_fractions (is_too_wide g.S.Exact.MAX) n (item_value e c.args.cells.now)
     (e c.args.divisor) c.args.row) (sym end) ∙ c.loop-j.invariant.none
 
-pub bounds-marks-j : goal.bounds-marks-j
-bounds-marks-j g c = omega (arith, c.loop-j-test.true, c.requires.block.same)
-
 pub bounds-cells-j : goal.bounds-cells-j
 bounds-cells-j g c = omega (arith, c.loop-j-test.true, c.loop-j.auto.cells)
 
 pub bounds-cells-j-in-Ok : goal.bounds-cells-j-in-Ok
 bounds-cells-j-in-Ok g c = omega (arith, c.loop-j-test.true, c.loop-j.auto.cells)
-
-pub bounds-columns-count : goal.bounds-columns-count
-bounds-columns-count g c =
-    omega (arith, c.loop-j.invariant.count, c.loop-j-test.true, c.loop-j.auto.columns, c.requires.room)
 
 pub quotient-requires : goal.quotient-requires
 quotient-requires g c = c.requires.divisor

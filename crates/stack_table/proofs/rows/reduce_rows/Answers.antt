@@ -1,17 +1,16 @@
-use Rattle.std.proofs.Common.{◌≡◌, refl, sym, ap, subst, ◌∙◌, ℕ, ◌+◌, ◌*◌, ◌-◌, ◌<◌, length, take, drop, true, false}
+use Rattle.std.proofs.Common.{◌≡◌, refl, sym, ap, subst, ◌∙◌, ℕ, ◌+◌, ◌*◌, ◌-◌, ◌<◌, length, take, drop, true}
 use Rattle.std.proofs.Common.{arith}
 use Rattle.stack_rational.proofs.Common.{err_from_is_err_and, ℕ_discrete, dec_lt, Fraction, ordered_fractions}
-use Rattle.stack_rational.proofs.Common.{first_found, first_more, is_too_wide, is_zero, get_or_default}
+use Rattle.stack_rational.proofs.Common.{first_found, first_more, is_too_wide, is_zero}
 use borrow.Rule.Slice.PartMut.{put_mid}
-use Rattle.stack_table.specs.Block.{item_value, mark_at, cell_of}
+use Rattle.stack_table.specs.Block.{item_value, cell_of}
 use Rattle.stack_table.specs.Spots.{reduced, reduce_spot, rows_spot}
-use Rattle.stack_table.specs.Columns.{ListsNonzero, zero_in}
 use Rattle.stack_rational.proofs.Fitting.{is_zero-of}
 use Rattle.stack_table.proofs.BlockRows.{row_in, cell_in, cell_outside, fits_cell, part_block, part_length, part_value}
 use Rattle.stack_table.proofs.BlockRows.{put_block, put_own, put_other}
 use Rattle.stack_table.proofs.RowSteps.{row_skips, row_none, reduce_same, reduced_same}
 use Rattle.stack_table.proofs.rows.reduce_rows.Goals as goal
-use Rattle.stack_table.proofs.rows.reduce_rows.Goals.{then-not-marks-start+in_ok-reduce_row, else-not-marks-start}
+use Rattle.stack_table.proofs.rows.reduce_rows.Goals.{then-not-is_zero_at+in_ok-reduce_row, else-not-is_zero_at}
 
 pub reduce_row-requires-clause-block : goal.reduce_row-requires-clause-block
 reduce_row-requires-clause-block g c =
@@ -51,8 +50,8 @@ returns-in_err-reduce_row-clause-wide g c =
     ∙ c.in_err-reduce_row.ensures.wide))
 
 pub loop-i-preserved : goal.loop-i-preserved
-loop-i-preserved g c = elim c.if-not-marks-start.branch [
-  | then-not-marks-start+in_ok-reduce_row w ↦
+loop-i-preserved g c = elim c.if-not-is_zero_at.branch [
+  | then-not-is_zero_at+in_ok-reduce_row w ↦
       let e = g.S.Exact.exact in
       let m = g.S.Exact.MAX in
       let n = length c.args.pivot.now in
@@ -91,7 +90,7 @@ loop-i-preserved g c = elim c.if-not-marks-start.branch [
             (reduce_same m (c.args.first + i) _ _ _ _ _ _ _ _ (sym part) row (λ j. refl) (row c.args.column)
             ∙ w.in_ok-reduce_row.ensures.wide);
       })
-  | else-not-marks-start w ↦
+  | else-not-is_zero_at w ↦
       let e = g.S.Exact.exact in
       let m = g.S.Exact.MAX in
       let n = length c.args.pivot.now in
@@ -100,14 +99,10 @@ loop-i-preserved g c = elim c.if-not-marks-start.branch [
       let piv = item_value e c.args.pivot.now in
       let room = row_in i c.args.count n (length c.loop-i.cells) c.loop-i-test.true
       (c.loop-i.auto.cells ∙ c.requires.whole) in
-      let mark : mark_at c.loop-i.marks (i * n + c.args.column) ≡ true =
-      get_or_default c.loop-i.marks (i * n + c.args.column) true false
-      (omega (arith, room, c.requires.column_in, c.loop-i.invariant.block.same))
-      ∙ w.if-not-marks-start.false in
       let none : is_zero (old i c.args.column) ≡ true =
       ap is_zero (sym (c.loop-i.invariant.rest i c.args.column (omega arith))
       ∙ cell_in e n c.loop-i.cells i c.args.column c.requires.column_in)
-      ∙ sym (c.loop-i.invariant.block.marked (i * n + c.args.column)) ∙ mark in
+      ∙ sym c.is_zero_at.ensures ∙ w.if-not-is_zero_at.false in
       let fit : (j : ℕ) → _ = λ j. fits_cell e m n c.args.cells.now c.args.marks.now i j c.requires.block in
       rw (w.cells-is, w.marks-is) (record {
         block = c.loop-i.invariant.block;
@@ -152,19 +147,18 @@ overflow_mul-start g c = omega (
       (c.loop-i.auto.cells ∙ c.requires.whole),
 )
 
-pub overflow_add-start : goal.overflow_add-start
-overflow_add-start g c = omega (
+pub overflow_add-at : goal.overflow_add-at
+overflow_add-at g c = omega (
   arith,
   c.requires.column_in,
   row_in c.loop-i.i c.args.count (length c.args.pivot.now) (length c.loop-i.cells) c.loop-i-test.true
       (c.loop-i.auto.cells ∙ c.requires.whole),
 )
 
-pub bounds-marks-start : goal.bounds-marks-start
-bounds-marks-start g c = omega (
+pub is_zero_at-requires : goal.is_zero_at-requires
+is_zero_at-requires g c = omega (
   arith,
   c.requires.column_in,
-  c.loop-i.invariant.block.same,
   row_in c.loop-i.i c.args.count (length c.args.pivot.now) (length c.loop-i.cells) c.loop-i-test.true
       (c.loop-i.auto.cells ∙ c.requires.whole),
 )
@@ -192,14 +186,6 @@ reduce_row-requires-clause-column_in g c = subst (λ n. c.args.column < n)
     (row_in c.loop-i.i c.args.count (length c.args.pivot.now) (length c.loop-i.cells) c.loop-i-test.true
     (c.loop-i.auto.cells ∙ c.requires.whole)))) c.requires.column_in
 
-pub reduce_row-requires-clause-listed : goal.reduce_row-requires-clause-listed
-reduce_row-requires-clause-listed g c = subst
-    (ListsNonzero (zero_in g.S.Exact.exact c.args.pivot.now) c.args.columns.now (length c.args.columns.now))
-    (sym (part_length g.S.Exact.exact g.S.Exact.MAX (length c.args.pivot.now)
-    c.loop-i.i c.loop-i.cells c.loop-i.marks c.loop-i.invariant.block
-    (row_in c.loop-i.i c.args.count (length c.args.pivot.now) (length c.loop-i.cells) c.loop-i-test.true
-    (c.loop-i.auto.cells ∙ c.requires.whole)))) c.requires.listed
-
 pub returns-in_err-reduce_row-clause-ok : goal.returns-in_err-reduce_row-clause-ok
 returns-in_err-reduce_row-clause-ok g c =
     rw ((err_from_is_err_and c.from_residual.result c.from_residual.ensures.1).1) tt
@@ -214,8 +200,8 @@ slice_bounds-reduce_row-end g c = omega (
       (c.loop-i.auto.cells ∙ c.requires.whole),
 )
 
-pub slice_bounds-reduce_row-end-then-not-marks-start : goal.slice_bounds-reduce_row-end-then-not-marks-start
-slice_bounds-reduce_row-end-then-not-marks-start g c = omega (
+pub slice_bounds-reduce_row-end-then-not-is_zero_at : goal.slice_bounds-reduce_row-end-then-not-is_zero_at
+slice_bounds-reduce_row-end-then-not-is_zero_at g c = omega (
   arith,
   c.loop-i.invariant.block.same,
   row_in c.loop-i.i c.args.count (length c.args.pivot.now) (length c.loop-i.cells) c.loop-i-test.true
@@ -241,5 +227,5 @@ returns-clause-wide g c =
 pub slice_bounds-reduce_row-count : goal.slice_bounds-reduce_row-count
 slice_bounds-reduce_row-count g c = omega arith
 
-pub slice_bounds-reduce_row-count-then-not-marks-start : goal.slice_bounds-reduce_row-count-then-not-marks-start
-slice_bounds-reduce_row-count-then-not-marks-start g c = omega arith
+pub slice_bounds-reduce_row-count-then-not-is_zero_at : goal.slice_bounds-reduce_row-count-then-not-is_zero_at
+slice_bounds-reduce_row-count-then-not-is_zero_at g c = omega arith

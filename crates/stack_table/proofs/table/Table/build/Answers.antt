@@ -1,6 +1,6 @@
-use Rattle.std.proofs.Common.{◌≡◌, refl, sym, ap, subst, ◌∙◌, ℕ, suc, ◌+◌, ◌*◌, ◌<◌, ◌≤◌, ◌^◌, get_or}
+use Rattle.std.proofs.Common.{◌≡◌, refl, sym, ap, ◌∙◌, ℕ, suc, ◌+◌, ◌*◌, ◌<◌, ◌≤◌, ◌^◌, get_or}
 use Rattle.std.proofs.Common.{Option, Some, None, cond, false, length, arith, is_some, pos}
-use Rattle.stack_rational.proofs.Common.{length_push, with_items_is, with_items, ℕ_discrete}
+use Rattle.stack_rational.proofs.Common.{length_push, ℕ_discrete}
 use Rattle.stack_rational.proofs.Common.{ordered_fractions, first, is_too_wide, first_more, get_or_default}
 use Rattle.std.proofs.Math.Nat.{add-mul, suc-mul}
 use Rattle.std.proofs.lemmas.Nat.{mul-le}
@@ -11,8 +11,6 @@ use Rattle.stack_table.specs.Block.{cell_of, shape_of, tabled}
 use Rattle.stack_table.specs.Problem.{flipped}
 use Rattle.stack_table.specs.Lent.{factor_count, shape_of_problem, problem_of}
 use Rattle.stack_table.specs.WrittenTable.{first_row, row_place}
-use Rattle.stack_table.specs.Due.{AreDue}
-use Rattle.stack_table.proofs.DueRows.{none_due}
 use Rattle.stack_table.proofs.Numbers.{few_columns}
 use Rattle.stack_table.proofs.Growing.{pushed_all, earlier_cells, next_cells}
 use Rattle.stack_table.proofs.RowByRow.{empty_block, flip_is, flips_are, tells_row, tells_objective, place_is, table_is}
@@ -31,9 +29,6 @@ loop-i-init g c = record {
       c.in_ok-marks.marks.items c.in_ok-cells.ensures.items c.in_ok-marks.ensures.items;
   long = omega (arith, ap length c.in_ok-cells.ensures.items);
   cells = λ k j l. absurd (omega (arith, l));
-  listed_long = omega (arith, c.in_ok-listed.ensures.len, c.in_ok-listed.listed.ok.0, c.artificial-artificial.ensures);
-  dues = none_due (problem_of c.args.p.now) c.in_ok-listed.listed.items _
-      (c.in_ok-listed.ensures.items_if_clones_equal (λ y h. h));
   none = refl;
   basic_long = ap length c.in_ok-basic.ensures.items;
   basics = λ k l. absurd (omega (arith, l));
@@ -52,13 +47,6 @@ push_row-requires-clause-i_in g c = c.loop-i-test.true
 
 pub push_row-requires-clause-block : goal.push_row-requires-clause-block
 push_row-requires-clause-block g c = c.loop-i.invariant.block
-
-pub push_row-requires-clause-long : goal.push_row-requires-clause-long
-push_row-requires-clause-long g c = ap length c.as_mut_slice.ensures.value ∙ c.loop-i.invariant.listed_long
-
-pub push_row-requires-clause-dues : goal.push_row-requires-clause-dues
-push_row-requires-clause-dues g c = subst (AreDue (problem_of c.args.p.now) c.loop-i.i)
-    (sym c.as_mut_slice.ensures.value) c.loop-i.invariant.dues
 
 pub returns-in_err-push_row : goal.returns-in_err-push_row
 returns-in_err-push_row g c = refused c.args.p.now c.requires c.in_err-push_row.field-0.0
@@ -85,9 +73,6 @@ loop-i-preserved g c =
     let old = c.loop-i.cells.items in
     let new = c.push_row.new.cells.items in
     let row = first_row ordered_fractions (problem_of P) i in
-    let items : (with_items c.loop-i.listed c.push_row.new.dues).items ≡ c.push_row.new.dues =
-    with_items_is c.loop-i.listed c.push_row.new.dues
-    (c.push_row.auto.dues ∙ ap length c.as_mut_slice.ensures.value ∙ sym c.loop-i.listed.ok.0) in
     record {
       block = c.in_ok-push_row.ensures.block;
       long = omega (arith, c.in_ok-push_row.ensures.grown.longer, v.long, add-mul i 1 w);
@@ -99,8 +84,6 @@ loop-i-preserved g c =
             (omega (arith, l, d))
             ∙ v.cells k j (omega (arith, l, d)) h
       ];
-      listed_long = ap length items ∙ c.push_row.auto.dues ∙ ap length c.as_mut_slice.ensures.value ∙ v.listed_long;
-      dues = λ j k l m. c.in_ok-push_row.ensures.dues j k (omega (arith, l)) (subst (λ ds. k < get_or ds j 0) items m);
       none = first_more i (row_place ordered_fractions (is_too_wide g.S.Exact.MAX) (problem_of P)) v.none
           c.in_ok-push_row.ensures.fits;
       basic_long = ap length c.in_ok-push.ensures.items ∙ length_push c.loop-i.basic.items _
@@ -176,16 +159,17 @@ returns-in_err-push_objective g c =
 pub invariant_of-result-clause-wide : goal.invariant_of-result-clause-wide
 invariant_of-result-clause-wide g c =
     let p = (goal.at.invariant_of-result-clause-wide g c).After-is_some in
-    omega (arith, c.loop-i.invariant.listed_long, contacts g p, factors g p)
+    omega (arith, c.artificial-artificial.ensures, contacts g p, factors g p)
 
 pub invariant_of-result-clause-whole : goal.invariant_of-result-clause-whole
 invariant_of-result-clause-whole g c =
     let P = c.args.p.now in
     let w = width (shape_of_problem P) in
     let p = (goal.at.invariant_of-result-clause-whole g c).After-loop-i in
+    let w_is : w ≡ c.artificial-artificial.result + P.rows + 1 = omega (arith, c.artificial-artificial.ensures) in
     let whole : length c.push_objective.new.cells.items ≡ suc P.rows * w =
     omega (arith, c.in_ok-push_objective.ensures.grown.longer, long g p, suc-mul P.rows w) in
-    whole ∙ ap (λ n. suc P.rows * n) (sym c.loop-i.invariant.listed_long)
+    whole ∙ ap (λ n. suc P.rows * n) w_is
 
 pub invariant_of-result-clause-block : goal.invariant_of-result-clause-block
 invariant_of-result-clause-block g c = c.in_ok-push_objective.ensures.block

@@ -4,7 +4,6 @@ use Rattle.stack_table.specs.Table.{plain, width}
 use Rattle.stack_table.specs.Block.{cell_of, IsBlock}
 use Rattle.stack_table.specs.Problem.{flipped}
 use Rattle.stack_table.specs.Lent.{shape_of_problem, problem_of}
-use Rattle.stack_table.specs.Due.{AreDue}
 use Rattle.stack_table.specs.WrittenTable.{first_row, row_place}
 use Rattle.stack_table.proofs.table.Table.build.Given as goal
 
@@ -15,8 +14,6 @@ invariant-loop-i g l = record {
   cells : (k j : ℕ) → k < l.i → j < width (shape_of_problem l.p) →
       cell_of g.S.Exact.exact (width (shape_of_problem l.p)) l.cells.items k j
       ≡ first_row ordered_fractions (problem_of l.p) k j;
-  listed_long : length l.listed.items ≡ width (shape_of_problem l.p);
-  dues : AreDue (problem_of l.p) l.i l.listed.items;
   none : first l.i (row_place ordered_fractions (is_too_wide g.S.Exact.MAX) (problem_of l.p)) ≡ None;
   basic_long : length l.basic.items ≡ l.i;
   basics : (k : ℕ) → k < l.i → get_or l.basic.items k 0 ≡ plain (shape_of_problem l.p) + k;

@@ -9,7 +9,7 @@ returns-clause-ok g c =
     let s = c.args.self.now in
     let e = g.S.Exact.exact in
     let w = width (shape_of s.rows s.contacts s.has_factor) in
-    let q : c.len.result ≡ w = c.len.ensures ∙ s.listed.ok.0 ∙ s.wide in
+    let q : s.row_length ≡ w = s.wide in
     let items : (with_items s.cells c.clear_last.new.cells).items ≡ c.clear_last.new.cells =
     with_items_is s.cells c.clear_last.new.cells
     (c.clear_last.auto.cells ∙ ap length c.as_mut_slice.ensures.value ∙ sym s.cells.ok.0) in

@@ -1,4 +1,4 @@
-use Rattle.std.proofs.Common.{◌≡◌, refl, sym, ap, ◌∙◌, ℕ, suc, ◌*◌, Bool, List, length, get_or, set, arith}
+use Rattle.std.proofs.Common.{◌≡◌, refl, sym, ap, ◌∙◌, ℕ, suc, Bool, List, length, get_or, set, arith}
 use Rattle.std.proofs.Common.{subst₂, length-set}
 use Rattle.stack_rational.proofs.Common.{with_items_is, err_from_is_err_and, with_items, changed, next}
 use Rattle.stack_rational.proofs.Common.{ordered_fractions, is_too_wide}
@@ -12,11 +12,7 @@ pub invariant_of-self-2-clause-whole : goal.invariant_of-self-2-clause-whole
 invariant_of-self-2-clause-whole g c =
     let s = c.args.self.now in
     let cells = c.pivot_block.auto.cells ∙ ap length c.as_mut_slice.ensures.value in
-    let listed = c.pivot_block.auto.columns ∙ ap length c.as_mut_slice-3.ensures.value in
     ap length (with_items_is s.cells c.pivot_block.new.cells (cells ∙ sym s.cells.ok.0)) ∙ cells ∙ s.whole
-    ∙ ap (λ n. suc s.rows * n)
-    (sym (ap length (with_items_is s.listed c.pivot_block.new.columns (listed ∙ sym s.listed.ok.0))
-    ∙ listed))
 
 pub invariant_of-self-2-clause-block : goal.invariant_of-self-2-clause-block
 invariant_of-self-2-clause-block g c =
@@ -42,20 +38,16 @@ invariant_of-self-2-clause-basics_in g c =
 pub returns-in_err-pivot_block-clause-wide : goal.returns-in_err-pivot_block-clause-wide
 returns-in_err-pivot_block-clause-wide g c =
     let s = c.args.self.now in
-    let q : length c.as_mut_slice-3.result.now ≡ width (shape_of s.rows s.contacts s.has_factor) =
-    ap length c.as_mut_slice-3.ensures.value ∙ s.wide in
     let p = err_from_is_err_and c.from_residual.result c.from_residual.ensures.1 in
-    rw (p.1, p.2) (sym (λ z. cells_spot ordered_fractions (is_too_wide g.S.Exact.MAX) (suc s.rows) (q z)
-    (cell_of g.S.Exact.exact (q z) (c.as_mut_slice.ensures.value z)) c.args.row c.args.column)
+    rw (p.1, p.2) (sym (λ z. cells_spot ordered_fractions (is_too_wide g.S.Exact.MAX) (suc s.rows) (s.wide z)
+    (cell_of g.S.Exact.exact (s.wide z) (c.as_mut_slice.ensures.value z)) c.args.row c.args.column)
     ∙ c.in_err-pivot_block.ensures.wide)
 
 pub returns-clause-wide : goal.returns-clause-wide
 returns-clause-wide g c =
     let s = c.args.self.now in
-    let q : length c.as_mut_slice-3.result.now ≡ width (shape_of s.rows s.contacts s.has_factor) =
-    ap length c.as_mut_slice-3.ensures.value ∙ s.wide in
-    sym (λ z. cells_spot ordered_fractions (is_too_wide g.S.Exact.MAX) (suc s.rows) (q z)
-    (cell_of g.S.Exact.exact (q z) (c.as_mut_slice.ensures.value z)) c.args.row c.args.column)
+    sym (λ z. cells_spot ordered_fractions (is_too_wide g.S.Exact.MAX) (suc s.rows) (s.wide z)
+    (cell_of g.S.Exact.exact (s.wide z) (c.as_mut_slice.ensures.value z)) c.args.row c.args.column)
     ∙ c.in_ok-pivot_block.ensures.wide
 
 pub returns-clause-ok : goal.returns-clause-ok
@@ -63,16 +55,15 @@ returns-clause-ok g c =
     let s = c.args.self.now in
     let e = g.S.Exact.exact in
     let w = width (shape_of s.rows s.contacts s.has_factor) in
-    let q : length c.as_mut_slice-3.result.now ≡ w = ap length c.as_mut_slice-3.ensures.value ∙ s.wide in
     let items : (with_items s.cells c.pivot_block.new.cells).items ≡ c.pivot_block.new.cells =
     with_items_is s.cells c.pivot_block.new.cells
     (c.pivot_block.auto.cells ∙ ap length c.as_mut_slice.ensures.value ∙ sym s.cells.ok.0) in
     let cells : (i j : ℕ) →
     cell_of e w (with_items s.cells c.pivot_block.new.cells).items i j ≡ next ordered_fractions
     (cell_of e w s.cells.items) c.args.row c.args.column i j
-    = λ i j. ap (λ ys. cell_of e w ys i j) items ∙ sym (λ z. cell_of e (q z) c.pivot_block.new.cells i j)
+    = λ i j. ap (λ ys. cell_of e w ys i j) items ∙ sym (λ z. cell_of e (s.wide z) c.pivot_block.new.cells i j)
     ∙ c.in_ok-pivot_block.ensures.ok i j
-    ∙ (λ z. next ordered_fractions (cell_of e (q z) (c.as_mut_slice.ensures.value z)) c.args.row c.args.column
+    ∙ (λ z. next ordered_fractions (cell_of e (s.wide z) (c.as_mut_slice.ensures.value z)) c.args.row c.args.column
     i j) in
     let basics : (i : ℕ) →
     get_or (set s.basic.items c.args.row c.args.column) i 0 ≡ changed
@@ -83,18 +74,12 @@ returns-clause-ok g c =
 
 pub pivot_block-requires-clause-whole : goal.pivot_block-requires-clause-whole
 pivot_block-requires-clause-whole g c = ap length c.as_mut_slice.ensures.value ∙ c.args.self.now.whole
-    ∙ ap (λ n. suc c.args.self.now.rows * n) (sym (ap length c.as_mut_slice-3.ensures.value))
 
 pub pivot_block-requires-clause-row_in : goal.pivot_block-requires-clause-row_in
 pivot_block-requires-clause-row_in g c = c.requires.row_in
 
 pub pivot_block-requires-clause-column_in : goal.pivot_block-requires-clause-column_in
-pivot_block-requires-clause-column_in g c = omega (
-  arith,
-  ap length c.as_mut_slice-3.ensures.value,
-  c.args.self.now.wide,
-  c.requires.column_in,
-)
+pivot_block-requires-clause-column_in g c = omega (arith, c.args.self.now.wide, c.requires.column_in)
 
 pub pivot_block-requires-clause-block : goal.pivot_block-requires-clause-block
 pivot_block-requires-clause-block g c = subst₂
@@ -104,16 +89,11 @@ pivot_block-requires-clause-block g c = subst₂
 pub pivot_block-requires-clause-cell : goal.pivot_block-requires-clause-cell
 pivot_block-requires-clause-cell g c =
     let s = c.args.self.now in
-    let q : length c.as_mut_slice-3.result.now ≡ width (shape_of s.rows s.contacts s.has_factor) =
-    ap length c.as_mut_slice-3.ensures.value ∙ s.wide in
-    λ h. c.requires.cell (sym (λ z. (cell_of g.S.Exact.exact (q z) (c.as_mut_slice.ensures.value z) c.args.row
+    λ h. c.requires.cell (sym (λ z. (cell_of g.S.Exact.exact (s.wide z) (c.as_mut_slice.ensures.value z) c.args.row
     c.args.column).num) ∙ h)
 
 pub invariant_of-self-2-clause-wide : goal.invariant_of-self-2-clause-wide
-invariant_of-self-2-clause-wide g c =
-    let s = c.args.self.now in
-    let listed = c.pivot_block.auto.columns ∙ ap length c.as_mut_slice-3.ensures.value in
-    ap length (with_items_is s.listed c.pivot_block.new.columns (listed ∙ sym s.listed.ok.0)) ∙ listed ∙ s.wide
+invariant_of-self-2-clause-wide g c = c.args.self.now.wide
 
 pub invariant_of-self-2-clause-flips : goal.invariant_of-self-2-clause-flips
 invariant_of-self-2-clause-flips g c = c.args.self.now.flips
@@ -123,13 +103,11 @@ invariant_of-self g c =
     let s = c.args.self.now in
     let cells = c.pivot_block.auto.cells ∙ ap length c.as_mut_slice.ensures.value in
     let marks = c.pivot_block.auto.marks ∙ ap length c.as_mut_slice-2.ensures.value in
-    let listed = c.pivot_block.auto.columns ∙ ap length c.as_mut_slice-3.ensures.value in
     let cells_are = with_items_is s.cells c.pivot_block.new.cells (cells ∙ sym s.cells.ok.0) in
     let marks_are = with_items_is s.marks c.pivot_block.new.marks (marks ∙ sym s.marks.ok.0) in
-    let listed_are = with_items_is s.listed c.pivot_block.new.columns (listed ∙ sym s.listed.ok.0) in
     record {
-      wide = ap length listed_are ∙ listed ∙ s.wide;
-      whole = ap length cells_are ∙ cells ∙ s.whole ∙ ap (λ n. suc s.rows * n) (sym (ap length listed_are ∙ listed));
+      wide = s.wide;
+      whole = ap length cells_are ∙ cells ∙ s.whole;
       block = subst₂ (λ (xs : List g.row.S.Denot) (ms : List Bool). IsBlock g.S.Exact.MAX g.S.Exact.exact xs ms)
           (sym cells_are) (sym marks_are) c.pivot_block.ensures.block;
       basics = s.basics;

@@ -22,7 +22,7 @@ returns-clause-ok g c =
     let e = g.S.Exact.exact in
     let S = shape_of s.rows s.contacts s.has_factor in
     let w = width S in
-    let q : c.len.result ≡ w = c.len.ensures ∙ s.listed.ok.0 ∙ s.wide in
+    let q : s.row_length ≡ w = s.wide in
     let T = tabled e S s.cells.items s.basic.items in
     let row = c.row_with-row.ensures
     ∙ (λ z. least ((ap length c.as_slice.ensures.value ∙ s.basics) z)
