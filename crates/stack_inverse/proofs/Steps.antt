@@ -1,6 +1,6 @@
 -- A row that is reduced.
 use Rattle.std.proofs.Common.{◌≡◌, sym, ap, ◌∙◌, ℕ, ◌≤◌, List, length, None, true}
-use Rattle.std.proofs.Common.{unsigned_abs, arith, ℤ, pos, ◌*ℤ◌, subst}
+use Rattle.std.proofs.Common.{unsigned_abs, arith, ℤ, pos, ◌*ℤ◌}
 use Rattle.std.proofs.lemmas.Bool.Decides.{nat_tests}
 use Rattle.stack_rational.proofs.Common.{ints, Fraction, ◌≺◌, of, over, of-over, ordered_fractions, expand, sums}
 use Rattle.stack_rational.proofs.Common.{first_all-none, is_zero_whole, is_zero, IsWidth, is_too_wide, widest}

@@ -1,5 +1,5 @@
-use Rattle.std.proofs.Common.{◌≡◌, sym, ap, ◌∙◌, rules, SFits, to_z-of_z}
-use Rattle.stack_rational.proofs.Common.{w128, over, Fraction}
+use Rattle.std.proofs.Common.{sym, ap, ◌∙◌, rules, SFits, to_z-of_z}
+use Rattle.stack_rational.proofs.Common.{w128, over}
 use Rattle.stack_inverse.specs.Seen.{under_in}
 use Rattle.stack_rows.proofs.Apart.{if_some}
 use Rattle.stack_revised.specs.Reads.{read_at}
