@@ -26,7 +26,7 @@ is_plus minus = false
 is_plus nought = false
 is_plus plus = true
 
--- whether a row goes before another: by the sign of its ratio less the other's, then by their basic columns
+-- whether a row goes before another: by the sign of its ratio minus the other's, then by their basic columns
 abbrev pub goes_first : Sign → ℕ → ℕ → Bool
 goes_first minus b c = true
 goes_first nought b c = ltb b c

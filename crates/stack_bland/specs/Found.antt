@@ -1,4 +1,4 @@
--- What a search that may give up tells of what there is to find.
+-- What a search that may give up says of what there is to find.
 use Rattle.std.specs.Prelude.{◌≡◌, ⊤, Option, Some, None}
 use Rattle.stack_bland.specs.declared.found.Found.{Found}
 use Rattle.stack_bland.specs.declared.found.Found.TheVariants.{GaveUp, Nothing, This}

@@ -10,7 +10,7 @@ use crate::signs::is_negative;
 use stack_rational::Exact;
 use stack_table::Table;
 
-/// The least column below `among` with a negative objective cell. None exactly where no cell there is negative.
+/// The least column below `among` with a negative objective cell. None exactly if no cell there is negative.
 pub fn entering<S: Exact>(t: &Table<S>, among: usize) -> Option<usize>
     requires { among ≤ columns (shape_of_table t.now) }
     ensures value { result ≡ entering ordered_fractions (shape_of_table t.now) (table_of t.now) among }

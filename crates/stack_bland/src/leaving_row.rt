@@ -50,7 +50,7 @@ fn better<S: Exact>(t: &Table<S>, best: Option<Candidate<S>>, next: Candidate<S>
 }
 
 /// Among the rows with a positive cell in the column, the one with the least ratio of right side to cell; among equal
-/// ratios, the one with the least basic column. The objective row isn't one of them. None exactly where no cell of the
+/// ratios, the one with the least basic column. The objective row isn't one of them. None exactly if no cell of the
 /// column is positive.
 ///
 /// Refused at the first ratio that is too wide, by rising rows.

@@ -1,5 +1,5 @@
--- What reading a certificate answers: the certificate whose text the bytes are, the faulty line exactly where
--- they are the text of none. `Memory` may come at any time.
+-- What reading a certificate answers: the certificate whose text the bytes are, the faulty line exactly if they are the
+-- text of none. `Memory` may come at any time.
 use Rattle.std.specs.Prelude.{◌≡◌, ℕ, List, Result, Ok, Err, ⊤}
 use Rattle.stack_certificate.specs.declared.types.Certificate.{Certificate}
 use Rattle.stack_certificate.specs.declared.types.TextError.{TextError}

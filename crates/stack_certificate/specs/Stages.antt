@@ -16,7 +16,7 @@ stage_view (stages.BeforeRay f) = before_ray (forces_view f)
 stage_view (stages.Unended c) = unended (certificate_view c)
 stage_view (stages.Ended c) = ended (certificate_view c)
 
--- There is a certificate exactly where the text is whole, and it is the one that was read.
+-- There is a certificate exactly if the text is whole, and it is the one that was read.
 abbrev pub Finishes : Option Certificate → Progress → Type 0
 Finishes (Some c) p = p ≡ ended (certificate_view c)
 Finishes None p = (n : ℕ) → finished (Some p) n ≡ Err n

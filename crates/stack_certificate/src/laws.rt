@@ -10,8 +10,8 @@ ghost use Rattle.stack_certificate.specs.FaultLine.{IsFaultLine};
 ghost use Rattle.stack_certificate.specs.Digits.{IsWritten};
 ghost use Rattle.stack_whole.specs.Whole.{IsFitting};
 
-/// As a function of the bytes, reading gives a certificate exactly where they are its text, and a line exactly where
-/// it's their faulty one.
+/// As a function of the bytes, reading gives a certificate exactly if they are its text, and a line exactly if it's
+/// their faulty one.
 pub fn one_reading()
     ensures reads { (c : CertificateValue) (bytes : List ℕ) → IsCertificateText c bytes → certificate_of bytes ≡ Ok c }
     ensures is { (c : CertificateValue) (bytes : List ℕ) → certificate_of bytes ≡ Ok c → IsCertificateText c bytes }

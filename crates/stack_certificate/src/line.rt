@@ -28,7 +28,7 @@ pub enum Line {
     End,
 }
 
-/// The two numbers that the bytes spell, with one space between them. None exactly where they spell no two numbers.
+/// The two numbers that the bytes spell, with one space between them. None exactly if they spell no two numbers.
 pub fn read_two(bytes: &[u8]) -> Option<(i128, i128)>
     ensures some { IfSome result (λ r. IsTwo r.0 r.1 bytes.now) }
     ensures none { IfNone result ((a b : ℤ) → ¬ IsTwo a b bytes.now) }

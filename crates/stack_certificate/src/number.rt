@@ -5,7 +5,7 @@ ghost use Rattle.stack_certificate.specs.Numbers.{IsNumber};
 
 use itoa::Buffer;
 
-/// The number that the bytes spell, at most 2^127 - 1 in size. None exactly where they spell none. A number has one
+/// The number that the bytes spell, at most 2^127 - 1 in size. None exactly if they spell none. A number has one
 /// spelling, so it's printed again and compared.
 pub fn read_number(bytes: &[u8]) -> Option<i128>
     ensures some { IfSome result (λ z. IsNumber z bytes.now) }

@@ -35,8 +35,8 @@ fn advance(alloc: Global, stage: Stage, bytes: &[u8]) -> Result<Option<Stage>, A
     }
 }
 
-/// The certificate whose text the bytes are. `Line` exactly where they are the text of no certificate, with the number
-/// of the faulty line. Memory may run out at any time.
+/// The certificate whose text the bytes are. `Line` exactly if they are the text of no certificate, with the number of
+/// the faulty line. Memory may run out at any time.
 pub fn read_certificate(alloc: Global, text: &[u8]) -> Result<Certificate, TextError>
     ensures reads { ReadsCertificate result text.now }
     ensures gives { GivesCertificate result text.now }

@@ -152,8 +152,7 @@ fn put_lists(out: &mut Vec<u8>, c: &Certificate) -> Result<(), AllocError>
     }
 }
 
-/// The text of the certificate, each of whose numbers is at most `2^127 - 1` in size. `AllocError` where memory ran
-/// out.
+/// The text of the certificate, each of whose numbers is at most `2^127 - 1` in size. `AllocError` if memory ran out.
 pub fn write_certificate(alloc: Global, c: &Certificate) -> Result<Vec<u8>, AllocError>
     requires { CertificateFits (certificate_view c.now) }
     ensures { IfOk result (λ text. IsCertificateText (certificate_view c.now) text.items) }

@@ -38,10 +38,10 @@ fn check_form(s: &Survey, c: &Certificate) -> Result<(), PartStop>
     }
 }
 
-/// Whether a certificate is true of the survey's model: `Accepted` only where it is, `Rejected` only where it isn't,
-/// with the first test that fails. `TooWide` where a product or a partial result is more than `2^127 - 1` in size
-/// before a test fails, with the first such place. Bearings and free blocks are counted from 0. Takes no memory. After
-/// Livesley (1978).
+/// Whether a certificate is true of the survey's model: `Accepted` only if it is, `Rejected` only if it isn't, with the
+/// first test that fails. `TooWide` where a product or a partial result is more than `2^127 - 1` in size before a test
+/// fails, with the first such place. Bearings and free blocks are counted from 0. Takes no memory. After Livesley
+/// (1978).
 ///
 /// What an accepted certificate shows of the structure, by its form: the dead loads stand; no admissible forces balance
 /// them; a factor of the live loads is carried and no greater one is; every factor from that of the first forces up is

@@ -1,4 +1,4 @@
--- What is so of the friction between two bodies.
+-- Laws of the friction between two bodies.
 use Rattle.std.specs.Prelude.{◌≡◌, ℕ, [], Some, ℤ}
 use Rattle.stack_frame.specs.Cones.{coefficient, lesser_of, lowest}
 use Rattle.stack_model.specs.Structure.{Structure, body_of, joint_terms}

@@ -5,7 +5,7 @@ use Rattle.stack_contact.specs.declared.types.SurveyError.{SurveyError}
 use Rattle.stack_contact.specs.declared.types.SurveyError.TheVariants.{Memory}
 use Rattle.stack_contact.specs.Surveyed.{Surveyed, Surveys}
 
--- two answers to one structure are the same, unless memory was wanting
+-- two answers to one structure are the same, unless memory ran out
 abbrev pub StructuresHaveOneSurvey : Type 0
 StructuresHaveOneSurvey = (s : Structure) (a b : Result Surveyed SurveyError) → Surveys s a → Surveys s b
     → (a ≡ Err Memory) ⊎ ((b ≡ Err Memory) ⊎ (a ≡ b))

@@ -64,9 +64,9 @@ fn made(points: Common, frame: Frame) -> Contacts
     }
 }
 
-/// Exactly the bearings and the touches of two polygons, of which the first is the earlier body's. `None`
-/// exactly where no edge of either separates them, and then some point is strictly inside both; where an edge
-/// does, none is. Takes no memory.
+/// Exactly the bearings and the touches of two polygons, of which the first is the earlier body's. `None` exactly if no
+/// edge of either separates them, and then some point is strictly inside both; where an edge does, none is. Takes no
+/// memory.
 pub fn contacts(p: &Polygon, q: &Polygon) -> Option<Contacts>
     ensures found { IfSome result (λ c. AreContacts p.now q.now c) }
     ensures separated { MatchOption result (¬ (AreSeparated p.now q.now)) (λ c. AreSeparated p.now q.now) }

@@ -1,4 +1,4 @@
-//! The survey of a model, and what it tells.
+//! The survey of a model, and what it says.
 
 ghost use Rattle.std.specs.Prelude.{◌≡◌, ◌<◌, ◌≤◌, false, length, slice_index, IfOk};
 ghost use Rattle.stack_model.specs.Structure.{body_of};
@@ -45,7 +45,7 @@ pub fn survey_of(model: Model, bearings: Vec<Bearing>, touches: Vec<Touch>) -> S
 }
 
 /// The survey of a model whose materials, joints and bodies are those of a survey: its bearings and its touches are the
-/// same, whatever its loads and its sway. `AllocError` where memory ran out.
+/// same, whatever its loads and its sway. `AllocError` if memory ran out.
 pub fn survey_again(alloc: Global, s: &Survey, model: Model) -> Result<Survey, AllocError>
     requires materials { (model_view model).materials ≡ s.now.structure.materials }
     requires joints { (model_view model).joints ≡ s.now.structure.joints }

@@ -26,7 +26,7 @@ use Rattle.stack_equilibrium.specs.SurveyScene.{first_corner_of, loads_on}
 abbrev pub push_at : List (ℤ × ℤ) → ℕ → Push
 push_at parts k = let p = get_or parts k (pos 0, pos 0) in record { a = whole p.0; b = whole p.1 }
 
--- a bearing as a block meets it: its tangent, and its point less the block's first stored corner
+-- a bearing as a block meets it: its tangent, and its point minus the block's first stored corner
 abbrev pub lever_at : Point → Bearing → Lever
 lever_at o z = record {
   tx = whole z.frame.tx;

@@ -26,7 +26,7 @@ block_move_at y b = let m = get_or y b (pos 0, pos 0, pos 0) in record {
   r = whole m.2;
 }
 
--- the velocity of a block at a bearing: r*ly and u less that product, then r*lx and v with that product
+-- the velocity of a block at a bearing: r*ly and u minus that product, then r*lx and v with that product
 unfoldable pub written_velocity : BlockMove → Lever → Result Velocity Wide
 written_velocity y z = do
   back ← made (y.r.value *ℤ z.ly.value)
@@ -46,7 +46,7 @@ velocity_at s y z i =
     else written_velocity (block_move_at y (frees_before s.structure.bodies i))
     (lever_at (first_corner_of s.structure i) z)
 
--- the later body's velocity less the earlier's, along x and then along y
+-- the later body's velocity minus the earlier's, along x and then along y
 unfoldable pub written_difference : Velocity → Velocity → Result Velocity Wide
 written_difference later earlier = do
   x ← made (later.x.value -ℤ earlier.x.value)

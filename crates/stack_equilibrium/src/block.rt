@@ -17,8 +17,8 @@ pub struct Push {
     pub b: Whole,
 }
 
-/// A bearing as a block meets it: its tangent, and its point less the block's first stored corner, which is the arm
-/// of a force there.
+/// A bearing as a block meets it: its tangent, and its point minus the block's first stored corner, which is the arm of
+/// a force there.
 #[derive(Clone, Copy)]
 pub struct Lever {
     pub tx: Whole,
@@ -59,7 +59,7 @@ pub fn lever_of(corner: Point, bearing: Bearing) -> Lever
     }
 }
 
-/// What bearing `k` bears.
+/// The parts of bearing `k`.
 pub fn push_of(parts: &[(i128, i128)], k: usize) -> Push
     requires { k < length parts.now }
     ensures { result ≡ push_at parts.now k }

@@ -164,7 +164,7 @@ fn bounded_bearing(s: &Survey, k: usize) -> Bearing
 }
 
 /// The wrench on free block `b` of a force at bearing `k`, about the block's first stored corner: of `q` times the
-/// normal and `p` times the tangent or, where `plus` is false, of `q` times the normal less `p` times the tangent. It
+/// normal and `p` times the tangent or, where `plus` is false, of `q` times the normal minus `p` times the tangent. It
 /// is the opposite on the first body, and zero on a block that isn't one of the bearing's two. Takes no memory.
 pub fn column(s: &Survey, k: usize, plus: bool, b: usize) -> Wrench
     requires bearing { k < length s.now.bearings }

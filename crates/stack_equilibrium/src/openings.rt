@@ -91,9 +91,9 @@ fn as_pair(gap: Result<Gap, Wide>) -> Result<(i128, i128), VelocityWide>
     }
 }
 
-/// The opening and the slide of bearing `k`: the later body's velocity less the earlier's, as dot products with
-/// the bearing's normal and with its tangent. Fixed bodies are at rest, and there is a move for each free
-/// block. `VelocityWide` exactly where a number of the written order is more than 2^127 - 1 in size. Takes no memory.
+/// The opening and the slide of bearing `k`: the later body's velocity minus the earlier's, as dot products with the
+/// bearing's normal and with its tangent. Fixed bodies are at rest, and there is a move for each free block.
+/// `VelocityWide` exactly if a number of the written order is more than 2^127 - 1 in size. Takes no memory.
 pub fn opening(s: &Survey, y: &Motion, k: usize) -> Result<(i128, i128), VelocityWide>
     requires bearing { k < length s.now.bearings }
     requires count { length (motion_view y.now) ≡ length (frees_of s.now.structure.bodies) }

@@ -77,9 +77,9 @@ fn as_number(work: Result<Whole, Wide>) -> Result<i128, PowerWide>
     }
 }
 
-/// The work of the dead or the live loads on a motion, in sixths of a unit: over the free blocks, `u` times the
-/// force to the right, `v` times the force upwards and `r` times the moment. There is a move for each free
-/// block. `PowerWide` exactly where a number of the written order is more than 2^127 - 1 in size. Takes no memory.
+/// The work of the dead or the live loads on a motion, in sixths of a unit: over the free blocks, `u` times the force
+/// to the right, `v` times the force upwards and `r` times the moment. There is a move for each free block. `PowerWide`
+/// exactly if a number of the written order is more than 2^127 - 1 in size. Takes no memory.
 pub fn power(s: &Survey, y: &Motion, q: Question) -> Result<i128, PowerWide>
     requires { length (motion_view y.now) ≡ length (frees_of s.now.structure.bodies) }
     ensures written { result ≡ written_power q s.now (motion_view y.now) }

@@ -45,11 +45,10 @@ fn sums_at(s: &Survey, f: &Forces, b: usize) -> Result<Wrench, SumWide>
     )
 }
 
-/// The sums of free block `b`, counted among the free blocks, along x, along y and about its first stored
-/// corner, in sixths of a unit of force: of what its bearings exert on it, `scale` times its dead loads and
-/// `factor` times its live loads. There is a part for each bearing. `SumWide` exactly where a number of the
-/// written order is more than 2^127 - 1 in size, with the axis of the first such sum, in the order x, y, m. Takes no
-/// memory.
+/// The sums of free block `b`, counted among the free blocks, along x, along y and about its first stored corner, in
+/// sixths of a unit of force: of what its bearings exert on it, `scale` times its dead loads and `factor` times its
+/// live loads. There is a part for each bearing. `SumWide` exactly if a number of the written order is more than 2^127
+/// - 1 in size, with the axis of the first such sum, in the order x, y, m. Takes no memory.
 pub fn residue(s: &Survey, f: &Forces, b: usize) -> Result<Wrench, SumWide>
     requires block { b < length (frees_of s.now.structure.bodies) }
     requires count { length (forces_view f.now).parts ≡ length s.now.bearings }

@@ -32,7 +32,7 @@ fn force_y(lever: Lever, push: Push) -> Result<Whole, Wide>
 }
 
 /// What a bearing exerts on its later body with this push: b*tx, a*ty and their difference, then a*tx, b*ty and their
-/// sum. `Wide` exactly where one of these numbers is more than 2^127 - 1 in size.
+/// sum. `Wide` exactly if one of these numbers is more than 2^127 - 1 in size.
 #[tactic(auto, unfolding(crate::specs::WrittenSums::written_bearing_force))]
 pub fn bearing_force(bearing: Bearing, push: Push) -> Result<Force, Wide>
     ensures { result ≡ written_bearing_force bearing push }

@@ -54,7 +54,7 @@ pub fn velocity_of(at: Lever, block: BlockMove) -> Result<Velocity, Wide>
     Ok(Velocity { x, y })
 }
 
-/// The later body's velocity less the earlier's.
+/// The later body's velocity minus the earlier's.
 #[tactic(auto, unfolding(crate::specs::WrittenVelocities::written_difference))]
 pub fn difference(later: Velocity, earlier: Velocity) -> Result<Velocity, Wide>
     ensures { result ≡ written_difference later earlier }

@@ -1,4 +1,4 @@
--- The fault that is answered is the first of all, and there is an answer without one exactly where there is none.
+-- The fault that is answered is the first of all, and there is an answer without one exactly if there is none.
 use Rattle.std.specs.Prelude.{◌≡◌, ◌↔◌, ℕ, true, List, [], Some, IsOk}
 use Rattle.toml.specs.Data.{Members}
 use Rattle.stack_polygon.specs.declared.point.Point.{Point}
@@ -15,12 +15,12 @@ use Rattle.stack_faults.specs.TableFaults.{shape_faults, table_faults, file_faul
 abbrev pub FirstContentFault : Type 0
 FirstContentFault = (parts : PartLists) → answered_fault (content_of parts) ≡ earliest (content_faults parts)
 
--- what a file lists makes a structure exactly where it has no fault of content
+-- what a file lists makes a structure exactly if it has no fault of content
 abbrev pub ContentWhereFaultless : Type 0
 ContentWhereFaultless = (parts : PartLists) → IsOk (content_of parts) ↔ (content_faults parts ≡ [])
 
--- corners within their limits are crooked exactly where neither they nor their reversal are strictly convex, and
--- then the edge that is told is the first that doesn't have every other corner strictly left of it
+-- corners within their limits are crooked exactly if neither they nor their reversal are strictly convex, and then the
+-- edge that is told is the first that doesn't have every other corner strictly left of it
 abbrev pub CrookedByMeaning : Type 0
 CrookedByMeaning = (ps : List Point) → (is_crooked (Some ps) ≡ true) ↔ HasNoOutline ps (unclear_edge (Some ps))
 
@@ -28,7 +28,7 @@ CrookedByMeaning = (ps : List Point) → (is_crooked (Some ps) ≡ true) ↔ Has
 abbrev pub FirstShapeFault : Type 0
 FirstShapeFault = (ms : Members) → answered_fault (parts_of_document ms) ≡ earliest (shape_faults ms)
 
--- a table says what it lists exactly where it has no fault of shape
+-- a table says what it lists exactly if it has no fault of shape
 abbrev pub ShapeWhereFaultless : Type 0
 ShapeWhereFaultless = (ms : Members) → IsOk (parts_of_document ms) ↔ (shape_faults ms ≡ [])
 
@@ -36,7 +36,7 @@ ShapeWhereFaultless = (ms : Members) → IsOk (parts_of_document ms) ↔ (shape_
 abbrev pub FirstTableFault : Type 0
 FirstTableFault = (ms : Members) → answered_fault (model_of ms) ≡ earliest (table_faults ms)
 
--- a table makes a structure exactly where it has no fault of either kind
+-- a table makes a structure exactly if it has no fault of either kind
 abbrev pub StructureWhereFaultless : Type 0
 StructureWhereFaultless = (ms : Members) → IsOk (model_of ms) ↔ (table_faults ms ≡ [])
 
@@ -44,6 +44,6 @@ StructureWhereFaultless = (ms : Members) → IsOk (model_of ms) ↔ (table_fault
 abbrev pub FirstFileFault : Type 0
 FirstFileFault = (bytes : List ℕ) → answered_fault (structure_of bytes) ≡ earliest (file_faults bytes)
 
--- a file's bytes make a structure exactly where they have no fault
+-- a file's bytes make a structure exactly if they have no fault
 abbrev pub FileWhereFaultless : Type 0
 FileWhereFaultless = (bytes : List ℕ) → IsOk (structure_of bytes) ↔ (file_faults bytes ≡ [])

@@ -15,8 +15,8 @@ pub fn outline_by_meaning()
 {}
 
 /// Of what a file lists, the fault that is answered is the first of all faults of content, and a structure comes
-/// exactly where there is none. The structure is what is listed, but for outlines in place of corners and numbers
-/// in place of names. Corners have a fault of their own exactly where they have no outline.
+/// exactly if there is none. The structure is what is listed, but for outlines in place of corners and numbers in place
+/// of names. Corners have a fault of their own exactly if they have no outline.
 pub fn first_content_fault()
     ensures first { FirstContentFault }
     ensures faultless { ContentWhereFaultless }
@@ -25,7 +25,7 @@ pub fn first_content_fault()
 {}
 
 /// Of a document's table, the fault that is answered is the first of all faults of shape and, where it has none, of
-/// content; and a structure comes exactly where there is none.
+/// content; and a structure comes exactly if there is none.
 pub fn first_table_fault()
     ensures shape { FirstShapeFault }
     ensures shape_faultless { ShapeWhereFaultless }
@@ -34,7 +34,7 @@ pub fn first_table_fault()
 {}
 
 /// Of a file's bytes, the fault that is answered is that they are no document, where they are none, and else the first
-/// of all faults of its table; and a structure comes exactly where there is none.
+/// of all faults of its table; and a structure comes exactly if there is none.
 pub fn first_file_fault()
     ensures first { FirstFileFault }
     ensures faultless { FileWhereFaultless }

@@ -51,9 +51,9 @@ impl Cone {
         reduced(Coefficient { p, q })
     }
 
-    /// Whether a force with the part `a` along the normal and the part `b` along the tangent pushes and stays
-    /// within the cone: `a >= 0`, and `q` times the size of `b` is at most `p` times `a`. `ConeWide` exactly where
-    /// `a >= 0` and `p` times `a`, the size of `b` or `q` times that size is more than 2^127 - 1 in size.
+    /// Whether a force with the part `a` along the normal and the part `b` along the tangent pushes and stays within
+    /// the cone: `a >= 0`, and `q` times the size of `b` is at most `p` times `a`. `ConeWide` exactly if `a >= 0` and
+    /// `p` times `a`, the size of `b` or `q` times that size is more than 2^127 - 1 in size.
     pub fn admits(self, a: Whole, b: Whole) -> Result<bool, ConeWide>
         ensures value { result ≡ written_admission self a.value b.value }
         ensures admits { IfOk result (λ holds. IsTrue holds ↔ IsAdmitted self a.value b.value) }

@@ -1,9 +1,9 @@
--- What a function returned, against what is defined; want of memory alone is free.
+-- What a function returned, against what is defined; only that memory runs out is free.
 use Rattle.std.specs.Prelude.{◌≡◌, Result, Ok, Err, ⊤}
 use Rattle.stack_model.specs.declared.errors.ModelError.{ModelError}
 use Rattle.stack_model.specs.declared.errors.ModelError.TheVariants.{Memory}
 
--- a returned fault is the one that is defined, but for want of memory
+-- a returned fault is the one that is defined, unless memory ran out
 abbrev pub Fails : {Y : Type 0} → ModelError → Result Y ModelError → Type 0
 Fails Memory read = ⊤
 Fails fault read = read ≡ Err fault

@@ -136,7 +136,7 @@ impl Model {
 
     /// The model with the same version, materials, joints and bodies, and with these loads and this sway. Each load is
     /// within the limits and on a free body, there are at most 256, and the sway is (0, 0) unless the version is 2.
-    /// `AllocError` where memory ran out.
+    /// `AllocError` if memory ran out.
     pub fn with_loads(
         &self,
         alloc: Global,
@@ -152,8 +152,8 @@ impl Model {
     }
 
     /// The model of the bodies that are kept, in their order, with the loads on them, and with all materials, all
-    /// joints and the sway. `keeps` says of each body whether it is kept; past its end none is. `AllocError` where
-    /// memory ran out.
+    /// joints and the sway. `keeps` says of each body whether it is kept; past its end none is. `AllocError` if memory
+    /// ran out.
     pub fn part(&self, alloc: Global, keeps: &[bool]) -> Result<Model, AllocError>
         ensures { IfOk result (λ m. model_view m ≡ part_of (flag_at keeps.now) (model_view self.now)) }
     {
@@ -216,8 +216,8 @@ impl Model {
         self.joints[i]
     }
 
-    /// The terms of the coefficient of the joint between the materials `s` and `t`, in either order. None exactly
-    /// where no joint is between them.
+    /// The terms of the coefficient of the joint between the materials `s` and `t`, in either order. None exactly if no
+    /// joint is between them.
     pub fn friction(&self, s: usize, t: usize) -> Option<(i64, i64)>
         requires s { s < length (model_view self.now).materials }
         requires t { t < length (model_view self.now).materials }

@@ -38,7 +38,7 @@ impl Names {
         self.set.get_index_of(name)
     }
 
-    /// Adds a name, and tells whether it is new; one that isn't changes nothing.
+    /// Adds a name, and says whether it is new; one that isn't changes nothing.
     pub fn add(&mut self, alloc: Global, name: &str) -> Result<bool, ModelError>
         ensures new { IfOk result (λ new. new ≡ is_new name.now self.old) }
         ensures memory { IfErr result (λ e. e ≡ ModelError.Memory) }

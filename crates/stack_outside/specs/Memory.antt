@@ -34,7 +34,7 @@ memory_read held true most = Err Failed
 memory_read None false most = Err Failed
 memory_read (Some bytes) false most = if nat_lt most (length bytes) then Err TooLong else Ok bytes
 
--- The result is this one, unless memory was wanting.
+-- The result is this one, unless memory ran out.
 abbrev pub Answers : Result (Vec ℕ Global) ShelfError → Result (List ℕ) ShelfError → Type 0
 Answers (Ok v) wanted = wanted ≡ Ok v.items
 Answers (Err Memory) wanted = ⊤

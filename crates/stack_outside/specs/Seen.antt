@@ -69,10 +69,10 @@ StreamFailed stream = Rose stream.faults stream.faults_after
 abbrev pub NeitherFailed : ShelfSeen → StreamSeen → Type 0
 NeitherFailed shelf stream = (¬ (ShelfFailed shelf)) × (¬ (StreamFailed stream))
 
--- The stream took exactly this text in the call, where it tells its bytes.
+-- The stream took exactly this text in the call, if it tells its bytes.
 abbrev pub Took : StreamSeen → List ℕ → Type 0
 Took stream text = Appends stream.written stream.written_after text
 
--- The stream took nothing in the call, where it tells its bytes.
+-- The stream took nothing in the call, if it tells its bytes.
 abbrev pub TookNothing : StreamSeen → Type 0
 TookNothing stream = Keeps stream.written stream.written_after

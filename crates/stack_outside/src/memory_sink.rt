@@ -28,7 +28,7 @@ impl MemorySink {
     /// Reserves `room` bytes. The call with the number of a pair in `fails`, counted from 1, fails and keeps as many
     /// bytes as the pair says, or the whole piece if that is shorter; where a number stands twice the first pair
     /// counts. A piece that doesn't fit the rest of the room fails and keeps nothing, also in a listed call.
-    /// `AllocError` where memory ran out.
+    /// `AllocError` if memory ran out.
     pub fn new(fails: Vec<(u64, usize)>, room: usize) -> Result<MemorySink, AllocError>
         ensures written { IfOk result (λ s. sink_written s ≡ []) }
         ensures fails { IfOk result (λ s. sink_fails s ≡ fails.items) }

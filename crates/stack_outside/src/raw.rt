@@ -66,7 +66,7 @@ pub trait RawStream {
     /// From here on no write to it fails, and each takes something of a piece that isn't empty.
     ghost never_fails: { Self → Type 0 };
 
-    /// Takes a front of the piece, and tells its length. A call that fails takes nothing.
+    /// Takes a front of the piece, and says how long it is. A call that fails takes nothing.
     fn write_some(&mut self, piece: &[u8]) -> Result<usize, CallFailed>
         ensures within { WritesAtMost result piece.now }
         ensures takes { WriteAppends (taken self.old) (taken self.new) result piece.now }

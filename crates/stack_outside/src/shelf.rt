@@ -16,8 +16,8 @@ pub trait Shelf {
     /// How often a read has failed, up to the greatest u64, where the count stays.
     ghost faults: { Self → ℕ };
 
-    /// All that the name holds, at most `most` bytes. `Failed` where the device fails or nothing has the
-    /// name, with its count risen; `TooLong` where the name holds more bytes; `Memory` where memory ran out.
+    /// All that the name holds, at most `most` bytes. `Failed` where the device fails or nothing has the name, with its
+    /// count risen; `TooLong` where the name holds more bytes; `Memory` if memory ran out.
     fn read(&mut self, name: &str, most: usize) -> Result<Vec<u8>, ShelfError>
         requires { most < usize.MAX }
         ensures gives { ReadGives (holds self.old name.now) most result }
@@ -26,7 +26,7 @@ pub trait Shelf {
         ensures later { faults self.old ≤ faults self.new }
         ensures bounded { StaysCounted (faults self.old) (faults self.new) }
         ensures cause { result ≡ Err ShelfError.Failed → Rose (faults self.old) (faults self.new) }
-        // The count goes up by one exactly where the read fails.
+        // The count goes up by one exactly if the read fails.
         ensures count { faults self.new ≡ count_after (has_failed result) (faults self.old) };
 }
 

@@ -25,6 +25,6 @@ pub trait Sink {
         ensures later { faults self.old ≤ faults self.new }
         ensures bounded { StaysCounted (faults self.old) (faults self.new) }
         ensures cause { OnErr result (Rose (faults self.old) (faults self.new)) }
-        // The count goes up by one exactly where the put fails.
+        // The count goes up by one exactly if the put fails.
         ensures count { faults self.new ≡ count_after (is_err result) (faults self.old) };
 }

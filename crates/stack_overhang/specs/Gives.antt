@@ -12,7 +12,7 @@ is_size least most n = nat_le least n && nat_le n most
 abbrev pub sized : ℕ → ℕ → ℕ → Structure → Result Structure StackError
 sized least most n s = if is_size least most n then Ok s else Err Size
 
--- want of memory may be answered only where the size is within its limits
+-- that memory ran out may be answered only if the size is within its limits
 abbrev pub GivesStack : Result Structure StackError → Result Structure StackError → Type 0
 GivesStack (Ok s) made = made ≡ Ok s
 GivesStack (Err Size) made = made ≡ Err Size

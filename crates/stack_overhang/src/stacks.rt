@@ -50,7 +50,7 @@ fn stack(alloc: Global, table: Rectangle, rows: &[BrickRow]) -> Result<Model, St
 
 /// The harmonic stack of `n` bricks, 1 to 10, each 5,040 long and 1,000 high, on a table that ends at 0. The right end
 /// of brick i, from 1 at the bottom, is the sum of 2520/k for k from n - i + 1 to n, so that the overhang is half the
-/// sum of 1/1 to 1/n in brick lengths. `Size` exactly for any other `n`, else `Memory` where memory ran out.
+/// sum of 1/1 to 1/n in brick lengths. `Size` exactly for any other `n`, else `Memory` if memory ran out.
 pub fn harmonic(alloc: Global, n: u32) -> Result<Model, StackError>
     ensures { GivesStack result (sized 1 10 n (harmonic_of n)) }
 {
@@ -65,7 +65,7 @@ pub fn harmonic(alloc: Global, n: u32) -> Result<Model, StackError>
 }
 
 /// The inverted triangle of `m` rows, 1 to 10: row i, from 1 at the bottom, has i bricks, each 2 long and 1 high, and
-/// its middle is the end of the table, at 0. `Size` exactly for any other `m`, else `Memory` where memory ran out.
+/// its middle is the end of the table, at 0. `Size` exactly for any other `m`, else `Memory` if memory ran out.
 pub fn triangle(alloc: Global, m: u32) -> Result<Model, StackError>
     ensures { GivesStack result (sized 1 10 m (triangle_stack m)) }
 {
@@ -81,7 +81,7 @@ pub fn triangle(alloc: Global, m: u32) -> Result<Model, StackError>
 
 /// The slab of depth `d`, 1 to 6: a row of one brick, and for each r from 2 to d the 2r - 3 rows of r, r - 1, r, .. r
 /// bricks, from the bottom; bricks and table are those of a triangle. `Size` exactly for any other `d`, else `Memory`
-/// where memory ran out. After Paterson and Zwick, "Overhang" (2009).
+/// if memory ran out. After Paterson and Zwick, "Overhang" (2009).
 pub fn slab(alloc: Global, d: u32) -> Result<Model, StackError>
     ensures { GivesStack result (sized 1 6 d (slab_of d)) }
 {

@@ -95,7 +95,7 @@ fn built(alloc: Global, w: Wall) -> Result<Model, StackError>
 /// first, divided by 65,536 and taken modulo 5, gives the friction, 3 to 7 tenths; the second, so divided and taken
 /// modulo 7, how far the even courses are shifted to the right, 4 to 10. A live load of 1 pushes to the right on the
 /// first brick of the top course, at its upper left corner. Weights are 1 for a square of the grid's unit. `Size`
-/// exactly for any other `number`, else `Memory` where memory ran out.
+/// exactly for any other `number`, else `Memory` if memory ran out.
 pub fn wall(alloc: Global, number: u32) -> Result<Model, StackError>
     ensures gives { GivesStack result (sized 0 999999 number (wall_of number)) }
     ensures live { IfOk result (λ m. HasLive (model_view m)) }

@@ -48,9 +48,9 @@ fn first_separating(p: &Polygon, q: &Polygon) -> Option<usize>
     None
 }
 
-/// The first edge, those of `p` before those of `q`, such that no corner of the other polygon lies strictly left
-/// of its line. `None` exactly where no edge is such, and then some point is strictly inside both; where an edge is
-/// such, none is. Takes no memory.
+/// The first edge, those of `p` before those of `q`, such that no corner of the other polygon lies strictly left of its
+/// line. `None` exactly if no edge is such, and then some point is strictly inside both; where an edge is such, none
+/// is. Takes no memory.
 pub fn separator(p: &Polygon, q: &Polygon) -> Option<Edge>
     ensures first { MatchOption result (NoneSeparates p.now q.now × NoneSeparates q.now p.now)
         (λ e. IsSeparator p.now q.now e) }

@@ -9,7 +9,7 @@ use stack_model::Model;
 use std::alloc::{AllocError, Global};
 
 /// The model of the bodies that are kept, in their order, with the loads on them, and with all materials, all joints
-/// and the sway. `keeps` says of each body whether it is kept. `AllocError` where memory ran out.
+/// and the sway. `keeps` says of each body whether it is kept. `AllocError` if memory ran out.
 pub fn part(alloc: Global, model: &Model, keeps: &[bool]) -> Result<Model, AllocError>
     requires { length keeps.now ≡ length (model_view model.now).bodies }
     ensures { IfOk result (λ p. model_view p ≡ part_of (flag_at keeps.now) (model_view model.now)) }

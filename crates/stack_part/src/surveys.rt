@@ -10,8 +10,8 @@ use stack_contact::{Survey, survey_of};
 use std::alloc::{AllocError, Global};
 
 /// The survey of the bodies that are kept, as `part` has them: its bearings and its touches are those of the whole
-/// whose bodies are both kept, in their order. `keeps` says of each body whether it is kept. `AllocError` where memory
-/// ran out.
+/// whose bodies are both kept, in their order. `keeps` says of each body whether it is kept. `AllocError` if memory ran
+/// out.
 pub fn survey_part(alloc: Global, s: &Survey, keeps: &[bool]) -> Result<Survey, AllocError>
     requires { length keeps.now ≡ length s.now.structure.bodies }
     ensures { IfOk result (λ p. p ≡ surveyed_part (flag_at keeps.now) s.now) }

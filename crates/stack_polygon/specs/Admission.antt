@@ -50,7 +50,7 @@ is_count n = nat_le 3 n && nat_le n 32
 abbrev pub first_far_of : List Point → ℕ
 first_far_of ps = first_failing (λ i. is_in_range (corner_of ps i)) (length ps)
 
--- the outline, or the refusal that tells the edge
+-- the outline, or the refusal that names the edge
 abbrev pub with_edge : Result (List Point) ℕ → Result (List Point) PolygonError
 with_edge (Ok qs) = Ok qs
 with_edge (Err e) = Err (NotConvex e)

@@ -65,7 +65,7 @@ impl Polygon {
         }
     }
 
-    /// The same polygon, kept once more. `AllocError` where memory ran out.
+    /// The same polygon, kept once more. `AllocError` if memory ran out.
     pub fn again(&self, alloc: Global) -> Result<Polygon, AllocError>
         ensures { IfOk result (λ p. p ≡ self.now) }
     {

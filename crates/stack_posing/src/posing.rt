@@ -117,7 +117,7 @@ fn right_sides(alloc: Global, s: &Survey) -> Result<Vec<i128>, AllocError>
 /// sums along x, along y and of moments about its first stored corner, in sixths of a unit of force; two columns for
 /// each bearing in order, the wrenches of `q*normal + p*tangent` and of `q*normal - p*tangent` on the later body and
 /// their opposites on the earlier one; for the question `Live` the factor column with the live loads; on the right
-/// minus the dead loads. Entries that are 0 are left out. `AllocError` where memory ran out. After Livesley (1978).
+/// minus the dead loads. Entries that are 0 are left out. `AllocError` if memory ran out. After Livesley (1978).
 pub fn pose(alloc: Global, s: &Survey, q: Question) -> Result<Problem, AllocError>
     ensures problem { IfOk result (λ p. problem_of p ≡ posed q (scene_of s.now)) }
     ensures condition { IfOk result (λ p. IsProblem p) }

@@ -19,7 +19,7 @@ WiderIsNeverTooWide = (m n : ℤ) (op : Op) (x y : Fraction) → unsigned_abs m 
 abbrev pub widest : ℤ
 widest = pos greatest_number
 
--- at 128 bits a whole number is too wide exactly where it doesn't fit
+-- at 128 bits a whole number is too wide exactly if it doesn't fit
 abbrev pub WholeIsTooWideAtWidest : Type 0
 WholeIsTooWideAtWidest = (n : ℤ) → is_too_wide widest Whole (of n) (of n) ≡ not (fits_whole n)
 

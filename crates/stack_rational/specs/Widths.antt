@@ -51,7 +51,7 @@ signed-greatest w128 = (lit< tt, lit< tt, refl)
 pub width_of : (m : ℤ) → IsGreatest m → IsWidth m
 width_of m h = record { some = omega (arith, ints, h.0, h.2); at_most = omega (arith, ints, h.1, h.2) }
 
--- a type of width w whose integers are those that fit, from low up, by what the greatest value max tells of them
+-- a type of width w whose integers are those that fit, from low up, by what the greatest value max says of them
 pub record SignedLaws {T : Type 0} (w : Width) (fits : ℤ → Type 0) (value : T → ℤ) (of_bits : ℕ → T)
     (low max : ℤ) : Type 0 where
   -- it has each integer whose size is at most the greatest value

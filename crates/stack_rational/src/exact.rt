@@ -25,7 +25,7 @@ pub struct OpWide {
 
 /// Exact numbers of one width: fractions in lowest terms whose numerator's size and denominator are at most `MAX`.
 ///
-/// Each call gives the exact value, or is refused exactly where `is_too_wide` holds. No call takes memory.
+/// Each call gives the exact value, or is refused exactly if `is_too_wide` holds. No call takes memory.
 pub trait Exact: Copy {
     ghost use Rattle.std.specs.Prelude.{◌≡◌, ◌≢◌, ℤ, pos, true, false, IfOk, IfErr};
     ghost use Rattle.stack_algebra.specs.Fraction.{Fraction};
@@ -51,15 +51,15 @@ pub trait Exact: Copy {
     fn one() -> Self
         ensures { exact result ≡ of (pos 1) };
 
-    /// A whole number. Refused exactly where its size is more than `MAX`.
+    /// A whole number. Refused exactly if its size is more than `MAX`.
     fn from_whole(n: i128) -> Result<Self, OpWide>
         ensures ok { IfOk result (λ r. exact r ≡ of n) }
         ensures fits { IfOk result (λ r. is_too_wide MAX op.Whole (of n) (of n) ≡ false) }
         ensures wide { IfErr result (λ e. is_too_wide MAX op.Whole (of n) (of n) ≡ true) }
         ensures named { IfErr result (λ e. e.op ≡ op.Whole) };
 
-    /// The sum. Refused exactly where, over the least common denominator, that denominator, either term or the
-    /// result, before it is reduced, is more than `MAX`.
+    /// The sum. Refused exactly if, over the least common denominator, that denominator, either term or the result,
+    /// before it is reduced, is more than `MAX`.
     fn sum(self, other: Self) -> Result<Self, OpWide>
         ensures ok { IfOk result (λ r. exact r ≡ op_value op.Sum (exact self) (exact other)) }
         ensures fits { IfOk result (λ r. is_too_wide MAX op.Sum (exact self) (exact other) ≡ false) }
@@ -73,14 +73,14 @@ pub trait Exact: Copy {
         ensures wide { IfErr result (λ e. is_too_wide MAX op.Difference (exact self) (exact other) ≡ true) }
         ensures named { IfErr result (λ e. e.op ≡ op.Difference) };
 
-    /// The product. Refused exactly where its lowest terms are more than `MAX`.
+    /// The product. Refused exactly if its lowest terms are more than `MAX`.
     fn product(self, other: Self) -> Result<Self, OpWide>
         ensures ok { IfOk result (λ r. exact r ≡ op_value op.Product (exact self) (exact other)) }
         ensures fits { IfOk result (λ r. is_too_wide MAX op.Product (exact self) (exact other) ≡ false) }
         ensures wide { IfErr result (λ e. is_too_wide MAX op.Product (exact self) (exact other) ≡ true) }
         ensures named { IfErr result (λ e. e.op ≡ op.Product) };
 
-    /// The quotient by a number that isn't 0. Refused exactly where its lowest terms are more than `MAX`.
+    /// The quotient by a number that isn't 0. Refused exactly if its lowest terms are more than `MAX`.
     fn quotient(self, other: Self) -> Result<Self, OpWide>
         requires { (exact other).num ≢ pos 0 }
         ensures ok { IfOk result (λ r. exact r ≡ op_value op.Quotient (exact self) (exact other)) }

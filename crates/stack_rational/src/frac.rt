@@ -116,7 +116,7 @@ impl<T: Integer> Frac<T> {
         made(T::one(), T::one())
     }
 
-    /// A whole number, refused exactly where its size is more than the greatest value.
+    /// A whole number, refused exactly if its size is more than the greatest value.
     pub(crate) fn from_whole(n: i128) -> Result<Self, PartWide>
         ensures ok { IfOk result (λ r. r ≡ of n) }
         ensures fits { IfOk result (λ r. Within T.MAX n) }
@@ -128,7 +128,7 @@ impl<T: Integer> Frac<T> {
         }
     }
 
-    /// The product, refused exactly where its lowest terms are more than the greatest value.
+    /// The product, refused exactly if its lowest terms are more than the greatest value.
     pub(crate) fn product(self, other: Self) -> Result<Self, PartWide>
         ensures ok { IfOk result (λ r. r ≡ mul self other) }
         ensures fits { IfOk result (λ r. Fits T.MAX (mul self other)) }
@@ -163,8 +163,8 @@ impl<T: Integer> Frac<T> {
         }
     }
 
-    /// The sum, refused exactly where, over the least common denominator, that denominator, either
-    /// term or the result is more than the greatest value.
+    /// The sum, refused exactly if, over the least common denominator, that denominator, either term or the result is
+    /// more than the greatest value.
     pub(crate) fn sum(self, other: Self) -> Result<Self, PartWide>
         ensures ok { IfOk result (λ r. r ≡ add self other) }
         ensures fits { IfOk result (λ r. SumFits T.MAX self other) }
@@ -228,7 +228,7 @@ impl<T: Integer> Frac<T> {
         }
     }
 
-    /// The quotient by a number that isn't 0, refused exactly where its lowest terms are more than the greatest value.
+    /// The quotient by a number that isn't 0, refused exactly if its lowest terms are more than the greatest value.
     pub(crate) fn quotient(self, other: Self) -> Result<Self, PartWide>
         requires { other.num ≢ pos 0 }
         ensures ok { IfOk result (λ r. r ≡ mul (inv other) self) }

@@ -9,8 +9,8 @@ pub fn wider_law()
     ensures { WiderIsNeverTooWide }
 {}
 
-/// An answer that isn't refused fits; nothing is refused of 0, 1 and -1; at 128 bits a whole number is refused
-/// exactly where it isn't one of stack_whole.
+/// An answer that isn't refused fits; nothing is refused of 0, 1 and -1; at 128 bits a whole number is refused exactly
+/// if it isn't one of stack_whole.
 pub fn fraction_fitting_law()
     ensures answers { AnswersFit }
     ensures small { SmallFits }

@@ -13,8 +13,8 @@ pub struct ScaleWide {
     pub index: usize,
 }
 
-/// The least common multiple of the denominators, 1 for the empty list. Refused exactly where the running multiple
-/// is more than 2^127 - 1 in size, with the first item at which it is. Takes no memory.
+/// The least common multiple of the denominators, 1 for the empty list. Refused exactly if the running multiple is more
+/// than 2^127 - 1 in size, with the first item at which it is. Takes no memory.
 pub fn common_scale(list: &[Frac<i128>]) -> Result<i128, ScaleWide>
     ensures ok { IfOk result (λ n. n ≡ pos (scale_of list.now)) }
     ensures fits { IfOk result (λ n. (k : ℕ) → k ≤ length list.now → scale_of (take k list.now) ≤ greatest_number) }

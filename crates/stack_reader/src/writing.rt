@@ -135,7 +135,7 @@ fn model_table(alloc: Global, model: &Model) -> Result<Table, AllocError>
 
 /// A TOML document that describes the model: `read_model` gives the same model of it, unless memory runs out. Its
 /// layout is that of `toml`; lists without an item are left out, so that a table may be added at its end. `AllocError`
-/// where memory ran out.
+/// if memory ran out.
 pub fn write_model(alloc: Global, model: &Model) -> Result<Vec<u8>, AllocError>
     ensures read { IfOk result (λ text. structure_of text.items ≡ Ok (model_view model.now)) }
     ensures table { IfOk result (λ t. document_table t.items ≡ Ok (parts_data (relisted (model_view model.now)))) }

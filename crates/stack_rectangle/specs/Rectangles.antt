@@ -96,19 +96,18 @@ contacts_of a b =
 abbrev pub contacts_by_ranges : List Point → List Point → Option Contacts
 contacts_by_ranges ps qs = contacts_of (extent_of ps) (extent_of qs)
 
--- On rectangles this is the definition of all polygons: they overlap exactly where some point is strictly
--- inside both, and then no edge separates them; otherwise these are exactly their bearings and touches, in
--- order.
+-- On rectangles this is the definition of all polygons: they overlap exactly if some point is strictly inside both, and
+-- then no edge separates them; otherwise these are exactly their bearings and touches, in order.
 abbrev pub RangesTellOverlaps : Type 0
 RangesTellOverlaps = (ps qs : List Point) → IsRectangle ps → IsRectangle qs
     → MatchOption (contacts_by_ranges ps qs) (Overlaps ps qs) (λ c. ¬ (Overlaps ps qs))
 
--- where the ranges tell an overlap no edge separates the two, and else some edge does
+-- if the ranges give an overlap no edge separates the two, and otherwise some edge does
 abbrev pub RangesTellSeparation : Type 0
 RangesTellSeparation = (ps qs : List Point) → IsRectangle ps → IsRectangle qs
     → MatchOption (contacts_by_ranges ps qs) (¬ (AreSeparated ps qs)) (λ c. AreSeparated ps qs)
 
--- where the ranges tell no overlap, the contacts that they tell are exactly those of the two as polygons
+-- if the ranges give no overlap, the contacts that they give are exactly those of the two as polygons
 abbrev pub RangesTellContacts : Type 0
 RangesTellContacts = (ps qs : List Point) → IsRectangle ps → IsRectangle qs
     → IfSome (contacts_by_ranges ps qs) (λ c. AreContacts ps qs c)

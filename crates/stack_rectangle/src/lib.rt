@@ -1,5 +1,5 @@
-//! Of two rectangles with level and upright edges the ranges in common tell the contacts: laws only. It ties the
-//! definition of contacts for any polygons to the one that everybody knows for rectangles.
+//! The ranges that two rectangles with level and upright edges have in common determine their contacts: laws only. It
+//! ties the definition of contacts for any polygons to the one that everybody knows for rectangles.
 #![tactic(auto)]
 
 mod laws;

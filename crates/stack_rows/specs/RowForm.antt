@@ -39,7 +39,7 @@ pub record IsWrittenPart (P : ℕ → ℤ → Type 0) (old : ℕ → ℤ) (from 
   pub before : (j : ℕ) → j < from → new j ≡ old j
   pub after : (j : ℕ) → end ≤ j → new j ≡ old j
 
--- a row step at one place: k times a number less t times that of the pivot row, divided
+-- a row step at one place: k times a number minus t times that of the pivot row, divided
 abbrev pub IsQuotient : (by k t old pivot new : ℤ) → Type 0
 IsQuotient by k t old pivot new = new *ℤ by ≡ old *ℤ k -ℤ t *ℤ pivot
 
@@ -79,7 +79,7 @@ pub record IsSameRow (old : List ℤ) (d : ℤ) (new : List ℤ) (e : ℤ) : Typ
   pub positive : pos 0 <ℤ e
   pub cross : (j : ℕ) → number_at new j *ℤ d ≡ number_at old j *ℤ e
 
--- a row step: the row times k less t times the pivot row, over w, is the new row over another denominator
+-- a row step: the row times k minus t times the pivot row, over w, is the new row over another denominator
 pub record IsTaken (old : List ℤ) (w : ℤ) (pivot : List ℤ) (k t : ℤ) (new : List ℤ) (after : ℤ) : Type 0 where
   pub positive : pos 0 <ℤ after
   pub number : (r : ℕ) → number_at new r *ℤ w

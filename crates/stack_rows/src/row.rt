@@ -116,7 +116,7 @@ impl Row {
         }
     }
 
-    /// Makes of the row k times itself less t times another one, over a number, divided by what they go by, or by a
+    /// Makes of the row k times itself minus t times another one, over a number, divided by what they go by, or by a
     /// lesser number.
     fn change(&mut self, other: &Row, s: &BroadStep, over: i128) -> Option<()>
         requires { length other.now.numbers.items ≡ length self.old.numbers.items }

@@ -175,9 +175,9 @@ pub fn fit(factors: Factors, own: u128, other: u128) -> bool
     step_fits(1, factors, own, other)
 }
 
-/// Makes of the first numbers of a row k times themselves less t times those of another one, divided by a guess of what
-/// all have in common, or by a lesser number. `words`: both have words. `fit`: what is divided fits. Gives up where a
-/// number doesn't fit.
+/// Makes of the first numbers of a row k times themselves minus t times those of another one, divided by a guess of
+/// what all have in common, or by a lesser number. `words`: both have words. `fit`: what is divided fits. Gives up
+/// where a number doesn't fit.
 pub fn divide(
     numbers: &mut [i128],
     other: &[i128],

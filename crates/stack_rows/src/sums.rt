@@ -1,4 +1,4 @@
-//! Check sums of a row, which tell what its numbers have in common. They are a hint: nothing here has a clause, and
+//! Check sums of a row, which show what its numbers have in common. They are a hint: nothing here has a clause, and
 //! what is divided by a hint is tested.
 
 use crate::words::{inverse, low, product_of, word_inverse};

@@ -101,7 +101,7 @@ fn small_after(
     Some(size)
 }
 
-/// The same, with jumps of the row that are made such of both rows first, and are found anew where it gives up.
+/// The same, with jumps of the row that are made valid for both rows first, and are found anew where it gives up.
 pub fn small_changed(
     numbers: &mut [i128],
     jumps: &mut [u16],
@@ -229,7 +229,7 @@ fn made_after(
     })
 }
 
-/// The same, with jumps of the row that are made such of both rows first, and are found anew where it gives up.
+/// The same, with jumps of the row that are made valid for both rows first, and are found anew where it gives up.
 pub fn changed(
     numbers: &mut [i128],
     jumps: &mut [u16],
@@ -316,7 +316,7 @@ fn apart_after(
     put_right(numbers, count, under, right)
 }
 
-/// The same, with jumps of the row that are made such of both rows first, and are found anew then.
+/// The same, with jumps of the row that are made valid for both rows first, and are found anew then.
 pub fn apart_changed(
     numbers: &mut [i128],
     jumps: &mut [u16],

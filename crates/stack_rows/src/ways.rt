@@ -1,4 +1,4 @@
-//! The ways to make the step of one number of a row: k times it less t times that of another row, divided.
+//! The ways to make the step of one number of a row: k times it minus t times that of another row, divided.
 
 ghost use Rattle.std.specs.Prelude.{◌≡◌, ◌-◌, ◌*◌, ◌^◌, ◌≤◌, pos, unsigned_abs, OnSome, IfSome, ◌*ℤ◌, ◌-ℤ◌};
 ghost use Rattle.std.specs.Option.{ForSome};

@@ -13,8 +13,8 @@ use Rattle.stack_run.specs.FourEnds.{EndGives}
 abbrev pub EndsGive : Type 0
 EndsGive = (P : Problem) (rule : Rule) (budget : ℕ) → EndGives ordered_fractions P (run_of P rule budget)
 
--- in phase 1 some row leaves wherever a column enters. So a run is over only where a pivot is due and the
--- budget's pivots are done
+-- in phase 1 some row leaves wherever a column enters. So a run is over only if a pivot is due and the budget's pivots
+-- are done
 abbrev pub SomeRowLeaves : Type 0
 SomeRowLeaves = (P : Problem) (rule : Rule) (budget : ℕ) (T : Tabled Fraction) (c : ℕ) →
     turns ordered_fractions P.shape rule 1 P.shape.contacts budget 0

@@ -1,4 +1,4 @@
--- How the answer of a call tells of a phase of the written run: the pivot that is done, the place that is too wide, the
+-- How the answer of a call is about a phase of the written run: the pivot that is done, the place that is too wide, the
 -- end of the phase, and what is left of it to be done.
 use Rattle.std.specs.Prelude.{◌≡◌, ℕ, suc, ◌<◌, ℤ, ⊤, Option, Some, None}
 use Rattle.stack_algebra.specs.Fraction.{Fraction}

@@ -15,7 +15,7 @@ pub data Phase : Type 0 where
   phase_2 : Phase
   phase_3 : Phase
 
--- what comes of a table, if there is one
+-- what follows a table, if there is one
 abbrev pub then_on : {C : Type 0} → Option (Tabled C) → (Tabled C → Option (Tabled C)) → Option (Tabled C)
 then_on None f = None
 then_on (Some T) f = f T

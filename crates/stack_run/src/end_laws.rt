@@ -11,7 +11,7 @@ pub fn run_laws()
 {}
 
 /// The row that leaves for a column has a positive cell there, of all such rows the least ratio, and among equal ratios
-/// the least-numbered basic column; none leaves exactly where no row has a positive cell. After Bland (1977).
+/// the least-numbered basic column; none leaves exactly if no row has a positive cell. After Bland (1977).
 pub fn leaving_law()
     ensures row { LeavingRowIsBest }
     ensures none { NoneIsPositive }

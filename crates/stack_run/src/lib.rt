@@ -1,6 +1,6 @@
 //! The written run of a problem, and the numbers of its ends: definitions, and laws. A wider run is the same; each of
-//! the four ends says what it means for the problem; and no run goes in circles, so that a budget always suffices.
-//! And how a call tells of it: the pivots done and left, how a phase stops, and where a run is too wide.
+//! the four ends says what it means for the problem; and no run goes in circles, so that a budget always suffices. And
+//! how a call answers it: the pivots done and left, how a phase stops, and where a run is too wide.
 //!
 //! A run turns its table in three phases up to an end. From what every turn keeps follows, of each end, what its
 //! last table says of the problem: that nothing balances, that its values do, that no greater factor is carried,

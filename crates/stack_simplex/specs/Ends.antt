@@ -9,12 +9,12 @@ use Rattle.stack_simplex.specs.declared.refusal.RunError.{RunError}
 use Rattle.stack_simplex.specs.declared.refusal.RunError.TheVariants.{TooWide, Spent}
 use Rattle.stack_run.specs.PhaseStops.{spot_of}
 
--- the value of the written run that a refusal tells
+-- the value of the written run that a refusal gives
 abbrev pub refused_end : RunError → End Fraction
 refused_end (TooWide p) = wide p.phase p.pivot (spot_of p)
 refused_end Spent = over
 
--- what an answer tells of the written run: how it ends, or why it has no end
+-- what an answer says of the written run: how it ends, or why it has no end
 abbrev pub run_end : {V : Type 0} {number : Ghosts V} → Result (Ended V number) RunError → End Fraction
 run_end (Ok x) = ended_as x
 run_end (Err e) = refused_end e

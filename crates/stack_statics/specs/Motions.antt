@@ -17,13 +17,13 @@ velocity_x_of s y z i = (y i).u -ℤ (y i).r *ℤ (z.py -ℤ (s.body i).oy)
 abbrev pub velocity_y_of : Scene → (ℕ → Move) → SceneBearing → ℕ → ℤ
 velocity_y_of s y z i = (y i).v +ℤ (y i).r *ℤ (z.px -ℤ (s.body i).ox)
 
--- the later body's velocity less the earlier's, along the normal (-ty, tx)
+-- the later body's velocity minus the earlier's, along the normal (-ty, tx)
 abbrev pub opening_of : Scene → (ℕ → Move) → SceneBearing → ℤ
 opening_of s y z =
     neg_ℤ z.ty *ℤ (velocity_x_of s y z z.second -ℤ velocity_x_of s y z z.first)
     +ℤ z.tx *ℤ (velocity_y_of s y z z.second -ℤ velocity_y_of s y z z.first)
 
--- the later body's velocity less the earlier's, along the tangent (tx, ty)
+-- the later body's velocity minus the earlier's, along the tangent (tx, ty)
 abbrev pub slide_of : Scene → (ℕ → Move) → SceneBearing → ℤ
 slide_of s y z =
     z.tx *ℤ (velocity_x_of s y z z.second -ℤ velocity_x_of s y z z.first)

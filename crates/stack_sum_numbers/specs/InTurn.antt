@@ -16,7 +16,7 @@ AllFit numbers = All IsFitting numbers
 abbrev pub OneIsTooWide : List ℤ → Type 0
 OneIsTooWide numbers = Any IsTooWide numbers
 
--- not all of them fit exactly where one is too wide
+-- not all of them fit exactly if one is too wide
 abbrev pub OneIsTooWideOrAllFit : Type 0
 OneIsTooWideOrAllFit = (numbers : List ℤ) → OneIsTooWide numbers ↔ (¬ (AllFit numbers))
 
@@ -28,7 +28,7 @@ lists_in_turn n lists = flat_map (λ numbers. numbers) (listed n lists)
 abbrev pub EndsIn : List ℤ → ℤ → Type 0
 EndsIn numbers last = (before : List ℤ) × (numbers ≡ before ++ last ∷ [])
 
--- a result has this value exactly where all numbers fit, and is refused exactly where one of them is too wide
+-- a result has this value exactly if all numbers fit, and is refused exactly if one of them is too wide
 pub record IsMadeOf {A E : Type 0} (numbers : List ℤ) (value : A) (result : Result A E) : Type 0 where
   pub made : (result ≡ Ok value) ↔ AllFit numbers
   pub refused : IsErr result ↔ OneIsTooWide numbers
@@ -39,8 +39,8 @@ IsFirstWide numbers X = OneIsTooWide (numbers X)
 IsFirstWide numbers Y = AllFit (numbers X) × OneIsTooWide (numbers Y)
 IsFirstWide numbers M = AllFit (numbers X) × AllFit (numbers Y) × OneIsTooWide (numbers M)
 
--- three sums are these exactly where all numbers of all three fit, and are refused with an axis exactly where
--- it is the first one of whose numbers is too wide
+-- three sums are these exactly if all numbers of all three fit, and are refused with an axis exactly if it is the first
+-- one of whose numbers is too wide
 pub record AreMadeOf (numbers : Axis → List ℤ) (sums : Wrench) (result : Result Wrench SumWide) : Type 0 where
   pub made : (result ≡ Ok sums) ↔ ((axis : Axis) → AllFit (numbers axis))
   pub refused : (axis : Axis) → (result ≡ Err (record { axis = axis })) ↔ IsFirstWide numbers axis

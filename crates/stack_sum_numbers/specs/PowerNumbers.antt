@@ -42,8 +42,8 @@ module _ (q : Question) (s : Surveyed) (y : MotionValue) where
   power_numbers = lists_in_turn (length (frees_of s.structure.bodies))
       (λ b. work_numbers (loads_of_free q s b) (move_of_free y b) b)
 
--- The written power is that of the scene's loads exactly where all its numbers fit, and is refused exactly where
--- one of them is too wide
+-- The written power is that of the scene's loads exactly if all its numbers fit, and is refused exactly if one of them
+-- is too wide
 abbrev pub PowerIsMadeOfItsNumbers : Type 0
 PowerIsMadeOfItsNumbers = (q : Question) (s : Surveyed) (y : MotionValue) →
     IsMadeOf (power_numbers q s y) (asked_power_of q (scene_of s) (move_at s y)) (written_power q s y)

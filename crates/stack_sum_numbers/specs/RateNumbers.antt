@@ -28,11 +28,11 @@ module _ (s : Surveyed) (y : MotionValue) (z : Bearing) where
       else ((move_at s y i).r *ℤ (z.at.y -ℤ (first_corner_of s.structure i).y)) ∷ x_rate i
       ∷ ((move_at s y i).r *ℤ (z.at.x -ℤ (first_corner_of s.structure i).x)) ∷ y_rate i ∷ []
 
-  -- the later body's velocity less the earlier's, along x
+  -- the later body's velocity minus the earlier's, along x
   abbrev pub x_difference : ℤ
   x_difference = x_rate z.second -ℤ x_rate z.first
 
-  -- the later body's velocity less the earlier's, along y
+  -- the later body's velocity minus the earlier's, along y
   abbrev pub y_difference : ℤ
   y_difference = y_rate z.second -ℤ y_rate z.first
 
@@ -52,8 +52,8 @@ module _ (s : Surveyed) (y : MotionValue) (z : Bearing) where
       ∷ (z.frame.tx *ℤ y_difference) ∷ (z.frame.ty *ℤ x_difference) ∷ exact_opening
       ∷ (z.frame.tx *ℤ x_difference) ∷ (z.frame.ty *ℤ y_difference) ∷ exact_slide ∷ []))
 
--- The written opening and slide of bearing k are the exact ones exactly where all their numbers fit, and are
--- refused exactly where one of them is too wide
+-- The written opening and slide of bearing k are the exact ones exactly if all their numbers fit, and are refused
+-- exactly if one of them is too wide
 abbrev pub RatesAreMadeOfTheirNumbers : Type 0
 RatesAreMadeOfTheirNumbers = (s : Surveyed) (y : MotionValue) (k : ℕ) → IsMadeOf (gap_numbers s y (bearing_of s k))
     (exact_opening s y (bearing_of s k), exact_slide s y (bearing_of s k)) (written_opening s y k)

@@ -125,8 +125,8 @@ scene_sums s f i = record {
   m = sum_m_of (scene_of s) (part_at f) f.scale f.factor i;
 }
 
--- The written sum along an axis is the exact one exactly where all its numbers fit, and is refused exactly where
--- one of them is too wide
+-- The written sum along an axis is the exact one exactly if all its numbers fit, and is refused exactly if one of them
+-- is too wide
 abbrev pub SumIsMadeOfItsNumbers : Type 0
 SumIsMadeOfItsNumbers = (axis : Axis) (block : Block) (scale factor : ℤ) (bearings : List Bearing)
     (parts : List (ℤ × ℤ)) → IsMadeOf (sum_numbers axis block scale factor bearings parts)

@@ -7,14 +7,14 @@ ghost use Rattle.stack_sum_numbers.specs.RateNumbers.{RatesAreMadeOfTheirNumbers
 ghost use Rattle.stack_sum_numbers.specs.PowerNumbers.{PowerIsMadeOfItsNumbers, PowerIsTheWorkOnFreeBlocks};
 ghost use Rattle.stack_sum_numbers.specs.WorkedNumbers.{WorkedSums, WorkedSumsAtTheLimit, WorkedRates, WorkedPowers};
 
-/// Of a list of numbers one is more than 2^127 - 1 in size exactly where not all fit.
+/// Of a list of numbers one is more than 2^127 - 1 in size exactly if not all fit.
 pub fn fitting_list_law()
     ensures { OneIsTooWideOrAllFit }
 {}
 
-/// A block's written sum along an axis is the exact sum exactly where all numbers of its list fit, and is refused
-/// exactly where one of them is too wide; the last of them is the sum. Its three sums are refused with the first
-/// axis one of whose numbers is too wide, and so are those of each body of a survey.
+/// A block's written sum along an axis is the exact sum exactly if all numbers of its list fit, and is refused exactly
+/// if one of them is too wide; the last of them is the sum. Its three sums are refused with the first axis one of whose
+/// numbers is too wide, and so are those of each body of a survey.
 pub fn sum_number_laws()
     ensures one { SumIsMadeOfItsNumbers }
     ensures last { NumbersEndInTheSum }
@@ -22,14 +22,14 @@ pub fn sum_number_laws()
     ensures survey { SurveySumsAreMadeOfTheirNumbers }
 {}
 
-/// A bearing's written opening and slide are those of the scene exactly where all numbers of their list fit, and are
-/// refused exactly where one of them is too wide.
+/// A bearing's written opening and slide are those of the scene exactly if all numbers of their list fit, and are
+/// refused exactly if one of them is too wide.
 pub fn rate_number_laws()
     ensures { RatesAreMadeOfTheirNumbers }
 {}
 
-/// The written power of the loads on a motion is that of the scene exactly where all numbers of its list fit, and is
-/// refused exactly where one of them is too wide.
+/// The written power of the loads on a motion is that of the scene exactly if all numbers of its list fit, and is
+/// refused exactly if one of them is too wide.
 pub fn power_number_laws()
     ensures scene { PowerIsMadeOfItsNumbers }
     ensures frees { PowerIsTheWorkOnFreeBlocks }

@@ -1,4 +1,4 @@
-//! The numbers of the written sums, rates and powers, refused exactly where one is too wide: laws only.
+//! The numbers of the written sums, rates and powers, refused exactly if one is too wide: laws only.
 #![tactic(auto)]
 
 mod laws;

@@ -19,7 +19,7 @@ mark_at marks k = get_or marks k true
 abbrev pub cell_of : {V : Type 0} → (V → Fraction) → ℕ → List V → ℕ → ℕ → Fraction
 cell_of exact width cells i j = cond (ltb j width) (item_value exact cells (i * width + j)) (of (pos 0))
 
--- cells that fit the greatest value m, each marked exactly where it is 0
+-- cells that fit the greatest value m, each marked exactly if it is 0
 pub record IsBlock {V : Type 0} (m : ℤ) (exact : V → Fraction) (cells : List V) (marks : List Bool)
     : Type 0 where
   pub same : length marks ≡ length cells

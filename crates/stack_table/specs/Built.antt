@@ -12,7 +12,7 @@ use Rattle.stack_table.specs.Lent.{IsAmple, TellsFirst, shape_of_problem, proble
 use Rattle.stack_table.specs.WrittenTable.{written_table, wide_place}
 use Rattle.stack_table.specs.Seen.{shape_of_table, table_of, flips_of}
 
--- what the result of building tells of a problem
+-- what the result of building says of a problem
 pub record Builds {V : Type 0} {number : Ghosts V} (result : Result (Table V number) BuildError) (P : Lent)
     : Type 0 where
   -- a table has the shape of the problem

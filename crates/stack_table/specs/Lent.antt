@@ -64,7 +64,7 @@ pub record IsProblem (P : Lent) : Type 0 where
   pub right_long : length P.right.items ≡ P.rows
   pub right_small : AllByRecursion IsBelowBound P.right.items
 
--- what an error of `build` tells of the first place that is too wide
+-- what an error of `build` says of the first place that is too wide
 abbrev pub TellsFirst : BuildError → Option BuildError → Type 0
 TellsFirst (Wide i j) o = o ≡ Some (Wide i j)
 TellsFirst Memory o = Unit {0}

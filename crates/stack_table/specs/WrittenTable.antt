@@ -27,7 +27,7 @@ abbrev pub first_basic : Problem → ℕ → ℕ
 first_basic P i = cond (ltb i P.shape.rows) (plain P.shape + i) 0
 
 module _ (F : Ordered) where
-  -- 0 less the first n numbers, in rising order
+  -- 0 minus the first n numbers, in rising order
   abbrev pub less_all : ℕ → (ℕ → F.C) → F.C
   less_all zero f = F.of (pos 0)
   less_all (suc n) f = less F (less_all n f) (f n)
@@ -54,7 +54,7 @@ module _ (F : Ordered) (P : Problem) where
   }
 
 module _ (F : Ordered) (is_too_wide : Op → F.C → F.C → Bool) where
-  -- the place, where the difference of 0 less the first i numbers and number i is too wide
+  -- the place, if the difference of 0 minus the first i numbers and number i is too wide
   abbrev pub partial_place : BuildError → (ℕ → F.C) → ℕ → Option BuildError
   partial_place place f i = only_if (is_too_wide Difference (less_all F i f) (f i)) place
 

@@ -20,7 +20,7 @@ use std::alloc::Global;
 pub struct Table<S: Exact> {
     /// Row by row, the objective row last; each row by rising column, the right side last.
     cells: Vec<S>,
-    /// One for each cell, on exactly where it is 0.
+    /// One for each cell, on exactly if it is 0.
     marks: Vec<bool>,
     /// The basic column of each row.
     basic: Vec<usize>,
@@ -158,7 +158,7 @@ impl<S: Exact> Table<S> {
         self.cells.as_slice()
     }
 
-    /// A mark for each cell, in the same order: on exactly where the cell is 0.
+    /// A mark for each cell, in the same order: on exactly if the cell is 0.
     pub fn marks(&self) -> &[bool]
         ensures whole { length result.now
             ≡ suc (shape_of_table self.now).rows * width (shape_of_table self.now) }

@@ -1,4 +1,4 @@
--- What the answers of a table tell, and when none is given.
+-- What the answers of a table say, and when none is given.
 use Rattle.std.specs.Prelude.{◌≡◌, ℕ, ℤ, ⊤, Bool, true, false, Option, Some, None, Result, Ok, Err}
 use Rattle.stack_algebra.specs.Fraction.{Fraction}
 use Rattle.stack_algebra.proofs.OrderedFractions.{ordered_fractions}
@@ -30,7 +30,7 @@ pub record IsRatio (max : ℤ) (S : Shape) (T : Tabled Fraction) (c i : ℕ) (x 
   pub value : x ≡ ratio ordered_fractions S T c i
   pub fits : ratio_item ordered_fractions S (is_too_wide max) T c i ≡ None
 
--- the ratio of a row, none where its cell isn't positive; refused exactly where it is too wide
+-- the ratio of a row, none where its cell isn't positive; refused exactly if it is too wide
 abbrev pub TellsRatio : {R : Type 0} → (R → Fraction) → ℤ → Shape → Tabled Fraction → (c i : ℕ) →
     Result (Option R) OpWide → Type 0
 TellsRatio value max S T c i (Ok None) = is_plus (ordered_fractions.sign (T.cell i c)) ≡ false

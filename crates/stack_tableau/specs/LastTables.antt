@@ -14,7 +14,7 @@ last_of (Feasible t) = t
 last_of (Optimal t) = t
 last_of (Ray t c) = t
 
--- the value of the written run that an end tells
+-- the value of the written run that an end gives
 abbrev pub ended_as : {V : Type 0} {number : Ghosts V} → Ended V number → End Fraction
 ended_as (Infeasible t) = infeasible (table_of t)
 ended_as (Feasible t) = feasible (table_of t)

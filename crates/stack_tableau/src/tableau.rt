@@ -81,7 +81,7 @@ pub trait Tableau {
         ensures settled { IsAnswered settles result };
 
     /// The ratio of a row for a column at hand: its right side by its cell, and none where the cell isn't positive.
-    /// Refused exactly where it is too wide.
+    /// Refused exactly if it is too wide.
     fn ratio_of(&self, i: usize, column: usize) -> Result<Option<Self::Ratio>, OpWide>
         requires i_in { i < (shape self.now).rows }
         requires column_in { column < plain (shape self.now) }

@@ -20,6 +20,6 @@ WallsHaveSurveys = (w : Wall) → IsWall w → HasSurvey (wall_structure w)
 abbrev pub DrawnWallsHaveSurveys : Type 0
 DrawnWallsHaveSurveys = (number : ℕ) → HasSurvey (wall_of number)
 
--- what has a survey isn't refused: where surveying it answers an error, memory was wanting
+-- what has a survey isn't refused: if surveying it answers an error, memory ran out
 abbrev pub SurveyedIsntRefused : Type 0
 SurveyedIsntRefused = (s : Structure) (e : SurveyError) → HasSurvey s → Surveys s (Err e) → e ≡ Memory

@@ -48,28 +48,28 @@ impl Whole {
         }
     }
 
-    /// The product of both. `Wide` exactly where it is more than 2^127 - 1 in size.
+    /// The product of both. `Wide` exactly if it is more than 2^127 - 1 in size.
     pub fn product(self, other: Whole) -> Result<Whole, Wide>
         ensures { result ≡ made (self.value *ℤ other.value) }
     {
         keep(CheckedMul::checked_mul(&self.value, &other.value))
     }
 
-    /// The sum of both. `Wide` exactly where it is more than 2^127 - 1 in size.
+    /// The sum of both. `Wide` exactly if it is more than 2^127 - 1 in size.
     pub fn sum(self, other: Whole) -> Result<Whole, Wide>
         ensures { result ≡ made (self.value +ℤ other.value) }
     {
         keep(CheckedAdd::checked_add(&self.value, &other.value))
     }
 
-    /// This number less the other. `Wide` exactly where the difference is more than 2^127 - 1 in size.
+    /// This number minus the other. `Wide` exactly if the difference is more than 2^127 - 1 in size.
     pub fn difference(self, other: Whole) -> Result<Whole, Wide>
         ensures { result ≡ made (self.value -ℤ other.value) }
     {
         keep(CheckedSub::checked_sub(&self.value, &other.value))
     }
 
-    /// The size of this number. `Wide` exactly where it is more than 2^127 - 1.
+    /// The size of this number. `Wide` exactly if it is more than 2^127 - 1.
     pub fn size(self) -> Result<Whole, Wide>
         ensures { result ≡ made (pos (nat_abs self.value)) }
     {

@@ -116,7 +116,7 @@ pub record FalseOfWorkedScenes : Type 0 where
   -- the table would have to hold the block down
   pub pull_holds_the_overhanging_block : ¬
       (IsTrueStands overhanging_block (standing_forces (straight (negative 24) ∷ straight (pos 48) ∷ [])))
-  -- the block is held only where the load pulls up instead, by 4/3 of it at least
+  -- the block is held only if the load pulls up instead, by 4/3 of it at least
   pub greatest_factor_below_0_is_none : ¬
       (IsTrueGreatest loaded_overhanging_block
       (forces_with (pos 3) (negative 4) (straight (pos 0) ∷ straight (pos 48) ∷ [])) toppling_move)
