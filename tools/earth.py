@@ -9,10 +9,10 @@
 Nothing here is proved. Numbers are decimals or fractions; N and D are whole. WEIGHT is the unit weight of the earth, in
 the units of a material's `weight`.
 
-**Earth behind a wall.** The earth lies to the left. Its surface begins at (X, Y), at the back of the top course that
-it reaches, within a unit of the grid, and rises to the left by BETA degrees. PHI is its angle of friction, DELTA that
-between earth and wall. KIND of the pressure is `dead` unless you write `live`. SURCHARGE is a load on each unit of
-length along x; its pressure has its own KIND.
+**Earth behind a wall.** The earth lies to the left; for earth to the right see tools/variant.py, `mirrored`. Its
+surface begins at (X, Y), at the back of the top course that it reaches, within a unit of the grid, and rises to the
+left by BETA degrees. PHI is its angle of friction, DELTA that between earth and wall. KIND of the pressure is `dead`
+unless you write `live`. SURCHARGE is a load on each unit of length along x; its pressure has its own KIND.
 
 The back is each edge of a free block that faces left and that no other body hides; a body that is buried hides it only
 if they touch. The pressure is Coulomb's active one: on an edge ka * WEIGHT * (depth below the top of the back) *

@@ -9,6 +9,7 @@
     tools/variant.py with MODEL KIND BLOCK X Y FX FY
     tools/variant.py inset MODEL D [M]
     tools/variant.py short MODEL TOLERANCE
+    tools/variant.py mirrored MODEL
 
 Nothing here is proved. Each form prints one model. Those of the first four are models of certificates that aren't of
 the drawing itself, so that `check` and `table` can judge them:
@@ -39,6 +40,9 @@ The others are for questions of your own:
   for that than TOLERANCE, in units of the grid. So certificates get shorter numbers, where a fine grid is too wide. It
   is another drawing, and its factors are a little different. A load at a corner of its block goes with it. Standard
   error says how many joints were turned, and how far the farthest corner moved.
+- `mirrored`: left and right change places, at x = 0, with all loads and the sway. All answers stay the same. So
+  tools/earth.py, which lays earth to the left, can lay it to the right: mirror the model, lay the earth, and mirror it
+  back.
 
 All else stays as it is and in its order. Comments are lost, but for such first lines. MODEL must be a model that the
 program accepts. If the words make no sense, the exit status is 2. It is 70 if MODEL is no model, if a file can't be
@@ -67,6 +71,14 @@ def stage(model: Model, order: str, count: int) -> Model:
     if not 0 <= count <= len(lines) or not set(lines[:count]) <= {block.name for block in model.free_blocks()}:
         raise Refused(f"{order}: no {count} lines of free blocks")
     return model.built(lines[:count])
+
+
+def mirrored(model: Model) -> Model:
+    """The model with left and right exchanged. The corners, taken from the last to the first, stay counterclockwise."""
+    sway = model.sway and [-model.sway[0], model.sway[1]]
+    blocks = [replace(block, corners=[[-x, y] for x, y in reversed(block.corners)]) for block in model.blocks]
+    loads = [replace(load, at=[-load.at[0], load.at[1]], force=[-load.force[0], load.force[1]]) for load in model.loads]
+    return replace(model, sway=sway, blocks=blocks, loads=loads)
 
 
 def direction(model: Model, i: int, j: int, m: int, n: int) -> Model:
@@ -160,7 +172,8 @@ FORMS = {"reversed": Form("", lambda name, rest: (read(name).turned(), None)), "
          "direction": Form("I J M N", of_direction), "share": Form("N D", of_share),
          "without": Form("NAME ..", lambda name, rest: (without(read(name), rest), None)),
          "with": Form("KIND BLOCK X Y FX FY", lambda name, rest: (with_load(name, rest), None)),
-         "inset": Form("D [M]", of_inset), "short": Form("TOLERANCE", of_short)}
+         "inset": Form("D [M]", of_inset), "short": Form("TOLERANCE", of_short),
+         "mirrored": Form("", lambda name, rest: (mirrored(read(name)), None))}
 
 
 def in_form(form: str, words: list[str]) -> str:

@@ -20,6 +20,7 @@ from unittest import mock
 import helpers  # puts tools/ where modules are found
 
 import earth
+import variant
 from earth import Behind, Soil
 from masonry import fill, program
 from masonry.console import Refused, Words
@@ -227,6 +228,17 @@ class Backs(unittest.TestCase):
                              (wall([[0, 0], [90, 0], [90, 60], [0, 60]]), (0, -60))):
             with self.assertRaises(Refused):
                 laid(model, soil, start)
+
+    def test_earth_on_both_sides_by_a_mirror(self) -> None:
+        """A wall of 120 by 300: earth presses with 18/3 * 300^2/2 = 270000 at 100 on either side."""
+        model, soil = wall([[0, 0], [120, 0], [120, 300], [0, 300]]), Soil(18, radians(30), 0, 0)
+        model.loads = laid(model, soil, (0, 300)).loads()
+        other = variant.mirrored(model)
+        other.loads = laid(other, soil, (-120, 300)).loads()
+        for loads, sense in (model.loads, 1), (variant.mirrored(other).loads, -1):
+            self.assertAlmostEqual(sum(load.force[0] for load in loads) / (sense * 270000), 1, 3)
+            self.assertAlmostEqual(sum(load.force[0] * load.at[1] for load in loads) / (sense * 27e6), 1, 3)
+            self.assertEqual({load.at[0] for load in loads}, {0} if sense > 0 else {120})
 
     def test_a_hidden_edge_takes_no_earth(self) -> None:
         """Of two leaves the front one is hidden but for its top 20."""

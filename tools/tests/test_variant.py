@@ -50,6 +50,14 @@ class Forms(unittest.TestCase):
         with self.assertRaises(Refused):
             variant.without(post(), ["roof"])
 
+    def test_mirrored_exchanges_left_and_right(self) -> None:
+        model = post(Load("post", "live", [0, 4], [3, -1]), sway=[2, 1])
+        made = variant.mirrored(model)
+        self.assertEqual(made.blocks[1].corners, [[0, 4], [-2, 4], [-2, 0], [0, 0]])
+        self.assertEqual((made.loads, made.sway), ([Load("post", "live", [0, 4], [-3, -1])], [-2, 1]))
+        self.assertTrue(all(twice_area([(x, y) for x, y in block.corners]) > 0 for block in made.blocks))
+        self.assertEqual(variant.mirrored(made), model)
+
     def with_load(self, model: Model, words: list[str], first: str = "") -> Model:
         with TemporaryDirectory() as folder:
             Path(folder, "model.toml").write_text(first + printed(model))
