@@ -188,8 +188,8 @@ ODD = {"near": "Corners that nearly meet a body (body, other body, place, gap)",
        "single": "Joints of one bearing",
        "nothing": "Blocks whose weight no bearing can carry: nothing",
        "apart": "Bodies that no joints tie to a fixed one"}
-# What no script has tried: always, with a sway, without one, with several live or dead loads, and with a live load that
-# acts straight up or down.
+# What no script has tried: always, with a sway, without one, with several live or dead loads, with a live load that
+# acts straight up or down, and with live loads that it neither moved nor asked alone.
 ALWAYS = """the ground under the toe, and the strength of stones at this thrust: docs/use/safety.md
 supports that give way, drawn as fixed: docs/worked/bridge.md, step 6
 stones that topple one on another down a slope: docs/use/published.md, "Columns that topple"
@@ -209,13 +209,15 @@ live loads that turn round while others keep their direction"""
 APART = """dead loads one by one a tenth less or more, and several that are missing at once"""
 DOWN = """a load that travels farther than to the next block, and axles: tools/travel.py
 two loads together, in any proportion: tools/region.py"""
+STAYS = """a live load at any other place, or without the others: none was moved or asked alone here"""
 
 
 def untried(model: Model) -> Iterator[str]:
     """The mistakes that no script has tried."""
     live, dead = model.live_loads(), [load for load in model.loads if load.kind == "dead"]
     for lines in (ALWAYS, SWAYING if any(model.sway or ()) else STILL, SETS if live[1:] else "",
-                  APART if dead[1:] else "", DOWN if any(not load.force[0] for load in live) else ""):
+                  APART if dead[1:] else "", DOWN if any(not load.force[0] for load in live) else "",
+                  STAYS if live and not changes.one_by_one(model) else ""):
         yield from (f"- {line}." for line in lines.splitlines())
 
 

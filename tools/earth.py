@@ -52,7 +52,10 @@ structure.
 
 **Water.** It stands to the left of the structure up to the height LEVEL, and to the right up to RIGHT if you write
 that. It presses square on each edge of a free block that no body hides on that side, also on the tops of steps and
-under ledges. A body under the surface doesn't hide what lies behind it, if water comes down between them. With `foot`
+under ledges. A body under the surface doesn't hide what lies behind it, if water comes down between them. **An opening
+that bodies close to both sides stays dry**, as a culvert: a line `dry below` names the free blocks over it. If water
+fills it too, as under an arch in a flood, don't lay the water: it would hold the arch down. Draw what stands in it
+lighter by the weight of the water, and in an earthquake list its uplift and its push yourself. With `foot`
 it also presses in the joints on fixed bodies, with `beds` in all beds: upwards on the block above, downwards on that
 below. There the head falls evenly along x, from one face of the structure to the other, and under the foot from its
 left end to its right end, also if it slants, curves or has steps. At both ends it is that of the water, or the height

@@ -6,10 +6,11 @@ edge that lies open to its side, square to the edge.
 from collections.abc import Iterator, Sequence
 from dataclasses import dataclass, replace
 from fractions import Fraction
+from itertools import pairwise
 
 from masonry.console import Refused, Words
 from masonry.fill import Surface, under
-from masonry.model import Bearing, Model, bearings_of, read
+from masonry.model import Bearing, Block, Model, bearings_of, read
 from masonry.numbers import decimal, number, whole
 from masonry.open_faces import Force, Laid, Piece, Place, Side, across, edges, left_over, open_pieces, with_loads
 from masonry.program import answer
@@ -141,6 +142,31 @@ def flows_over(model: Model, part: Piece, level: float, other: float | None) -> 
     if part.start[1] == part.end[1] and other != level and sees_left(mirrored(model, -1, 1), (-x, y + NEAR)) \
             and sees_left(model, (x, y + NEAR)):
         raise Refused(f"water flows over {part.block}: let it stand as high on both sides, or no higher than the top")
+
+
+def dry_below(model: Model, water: Water) -> list[str]:
+    """The free blocks that hang over an opening under the surface of the water which bodies close to both sides. Water
+    doesn't reach it, so none presses there."""
+    level = max(height for height in (water.left, water.right) if height is not None)
+    sides = [(x, mirrored(model, x, 1), height) for x, height in ((1, water.left), (-1, water.right))]
+
+    def open_to_a_side(x: Fraction, y: Fraction) -> bool:
+        return any(sees_left(seen, (way * x, y)) if height is None
+                   else reached(seen, (way * x, y), Fraction(height)) for way, seen, height in sides)
+
+    return [block.name for block in model.free_blocks()
+            if any(y < level and not any(low < x < high for low, high in spans(model, y)) and not open_to_a_side(x, y)
+                   for x, y in below(model, block))]
+
+
+def below(model: Model, block: Block) -> Iterator[Place]:
+    """Places just below the edges of a block that face down: two between any corners of all bodies, one beside each."""
+    for (ax, ay), (bx, by) in edges(block):
+        if ax < bx:
+            among = sorted({ax, bx, *(x for body in model.blocks for x, _ in body.corners if ax < x < bx)})
+            for low, high in pairwise(among):
+                for x in low + 100 * NEAR, high - 100 * NEAR:
+                    yield x, ay + (by - ay) * (x - ax) / (bx - ax) - NEAR
 
 
 # Beds
@@ -287,4 +313,5 @@ def flooded(words: list[str]) -> tuple[Model, Scale, list[str]]:
         shaken(laid, pieces, water)
     right, left = (sum(max(way * one.along[0], 0.0) * sum(one.pressures) / 2 for one in pieces) for way in (1, -1))
     made, scale, lines = with_loads(model, laid)
-    return made, scale, [f"water pushes right {number(right, 1e-6)} left {number(left, 1e-6)}", *lines]
+    dry = [" ".join(["dry below", *hang])] if (hang := dry_below(model, water)) else []
+    return made, scale, [f"water pushes right {number(right, 1e-6)} left {number(left, 1e-6)}", *lines, *dry]

@@ -106,7 +106,22 @@ class Water(Asked):
                          [f"water pushes right {push} left 0" for push in (4.5, 2)])
         self.wetted(beside(box("bank", -9, 0, -1, 4)), "3", status=70)
         portal = wall(box("left", 0, 0, 2, 4), box("right", 6, 0, 8, 4), box("lintel", 0, 4, 8, 6))
-        self.assertEqual(self.wetted(portal, "8", "right", "8")[1][0], "water pushes right 30 left 30")
+        said = self.wetted(portal, "8", "right", "8")[1]
+        self.assertEqual((said[0], said[-1]), ("water pushes right 30 left 30", "dry below lintel"))
+
+    def test_what_hangs_over_a_dry_opening(self) -> None:
+        # All stones of an arch hang over its opening, but none does that stands above the water. A ledge hangs over
+        # none, whether the water lies before it or on the other side, and neither does a lintel on piers that touch.
+        arch = replace(example("arches/footbridge"), loads=[])
+        self.assertEqual(self.wetted(arch, "200", "right", "200")[1][-1], "dry below v1 v2 v3 v4 v5 v6 v7")
+        self.assertEqual(self.wetted(arch, "40", "right", "40")[1][-1], "dry below v1 v2 v6 v7")
+        ledged = wall(box("foot", 1, 0, 3, 2), box("head", 0, 2, 3, 4))
+        piers = wall(box("one", 0, 0, 2, 2), box("two", 2, 0, 5, 2), box("lintel", 0, 2, 5, 4))
+        apart = wall(box("one", 0, 0, 2, 2), box("two", 3, 0, 5, 2), box("lintel", 0, 2, 8, 4))
+        for model, words, dry in ((ledged, "4", []), (ledged, "3 right 3", []), (piers, "3 right 1", []),
+                                  (apart, "3", ["dry below lintel"])):
+            said = self.wetted(model, *words.split())[1]
+            self.assertEqual([line for line in said if line.startswith("dry")], dry)
 
     def test_a_face_that_leans(self) -> None:
         # A face that leans back by 1 in 4: the water also lies on it, with the weight of the triangle above, 4*1/2. The
