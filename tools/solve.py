@@ -10,6 +10,7 @@
     tools/solve.py MODEL stages CERT ORDER
     tools/solve.py MODEL slides [N D] [all]
     tools/solve.py MODEL friction CERT [N D]
+    tools/solve.py MODEL falls CERT [N D]
 
 and behind the words of load, range, between and slides maybe `kN FORCE`.
 
@@ -62,6 +63,15 @@ Coefficients that a file can't hold are rounded down where it stands, and up whe
 it stands without any. It is an answer for the model, in which a joint that slides also lifts: a real structure may need
 more.
 
+`falls` asks which stones fall, under N/D of the live loads and of the sway, none if not given. The first line has
+blocks that can begin to fall together while all others stay: no joint resists this motion, and the loads gain power on
+it. No part of them falls alone: if any one of them is held, and all that stay, the others stand, as an exact linear
+program shows, which the script checks in fractions. Then these blocks are taken away, and `then falls` has what falls
+next, until the rest stands. Others may be able to begin as well. That the first line has the fewest blocks isn't
+claimed, nor that a real structure falls in this order.
+
+    CERT-K.toml, CERT-K.cert                `falls NAME .. accepted`, or `stays NAME .. accepted`: line K
+
 With `kN FORCE`, what a force of 1 of the structure is in kN, decimals are in kN, as for tools/read.py: the force of a
 tie or a prop; N and T of joints; and instead of a factor what all live loads come to at it, unless a sway acts with
 them. Fractions stay what they are. The first line says so. Nothing that is printed is a length, so there is no `m`.
@@ -87,10 +97,10 @@ from masonry.console import Answer, Ended, Progress, Refused, Words
 from masonry.lp.programs import MISSING
 from masonry.model import Model
 from masonry.numbers import fraction, whole
-from masonry.questions import between, frictions, ranges, results, slides, stages
+from masonry.questions import between, falls, frictions, ranges, results, slides, stages
 from masonry.questions.case import Case
 from masonry.questions.voice import Voice
-from masonry.units import Given, Size, dead_of, factor_in, scale_of, with_units
+from masonry.units import Given, Scale, Size, dead_of, factor_in, scale_of, with_units
 
 NO_LIVE = Answer(9, "", "no live load")
 MICRO = 2  # how far two shares may be apart, in millionths, if no number is given
@@ -260,9 +270,21 @@ def needed_friction(name: str, words: list[str], progress: Progress) -> int:
     return 0
 
 
+def which_fall(name: str, words: list[str], progress: Progress) -> int:
+    cert, *rest = counted(words, "falls CERT [N D]", 1, 3)
+    acting = fraction(rest[0], rest[1]) if rest else Fraction(0)
+    accepted(name)
+    model, text = models.read(name), models.text_of(name)
+    made, times = between.held(model, acting)
+    head = ranges.head(scale_of(text).times(Scale(Fraction(times))),
+                       dead_of(text).shared(acting) if model.has_live() else dead_of(text))
+    falls.falls(made, head, cert.removesuffix(".cert"), progress)
+    return 0
+
+
 QUESTIONS: dict[str, Callable[[str, list[str], Progress], int]]
 QUESTIONS = {"stand": stand, "load": load, "range": wide_range, "between": wide_between, "stages": wide_stages,
-             "slides": wide_slides, "friction": needed_friction}
+             "slides": wide_slides, "friction": needed_friction, "falls": which_fall}
 OF_CERT = "stand", "load", "range", "between"  # which write the file CERT itself
 
 

@@ -41,6 +41,7 @@ solve M between T
 solve M between T tie post 0 4 ground -5 0 1 2
 solve M between T prop post 0 4 1 0
 solve M stages T O
+solve M falls T 1 3
 solve M slides
 solve M slides 1 2
 solve A slides 1 2 all kN 0.001

@@ -8,7 +8,7 @@ from fractions import Fraction
 
 from masonry.lp.programs import Exact, Found, Lacking, Program, Row, Sign
 from masonry.numbers import lowest
-from masonry.statics import NotFound, Structure
+from masonry.statics import Column, NotFound, Structure
 
 
 Amounts = dict[int, Fraction]
@@ -33,6 +33,12 @@ def amounts_of(found: Found, edges: Iterable[int]) -> Amounts:
     return {k: found.value(f"e{k}") for k in edges if found.value(f"e{k}")}
 
 
+def stands(structure: Structure) -> bool:
+    """Whether some forces carry the dead loads: if so, they are worked out again here, in fractions."""
+    rows = balance(structure, range(len(structure.edges)), structure.dead, {})
+    return isinstance(Program({}, rows).closed(), Found)
+
+
 def fall(structure: Structure) -> list[int]:
     """A motion on which the dead loads gain power and that no bearing resists. They aren't carried."""
     zero, edges = [0] * len(structure.dead), range(len(structure.edges))
@@ -46,6 +52,21 @@ def fall_anyway(structure: Structure) -> list[int]:
     zero, edges = [0] * len(structure.dead), range(len(structure.edges))
     rows = balance(structure, edges, zero, {"t": structure.dead, "u": structure.live})
     return lowest(Program({"t": 1}, rows, {"t": (0, 1)}, ["u"]).reached().duals)
+
+
+def least_fall(structure: Structure, counted: Sequence[tuple[Column, int]]) -> list[int]:
+    """A motion on which the dead loads gain power and that no bearing resists, and of these, for their power, one on
+    which the columns counted do the least work, of either sign, each so many times.
+
+    It is the dual of how far the dead loads are raised, if each of these columns helps so many times to either side.
+    """
+    zero, edges = [0] * len(structure.dead), range(len(structure.edges))
+    rows, bounds = balance(structure, edges, zero, {"t": structure.dead}), dict[str, tuple[Exact, Exact]]()
+    for k, (column, most) in enumerate(counted):
+        bounds[f"h{k}"] = -most, most
+        for row, amount in column.items():
+            rows[row].terms[f"h{k}"] = amount
+    return lowest(Program({"t": 1}, rows, bounds).reached().duals)
 
 
 def ends(structure: Structure) -> tuple[Fraction | None, Fraction | None] | None:

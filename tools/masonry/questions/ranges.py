@@ -25,7 +25,12 @@ def both(case: Case, other: Case, between: str) -> tuple[Loaded, Loaded | None]:
 
 def put(name: str, model: Model, scale: Scale, dead: Dead = Dead()) -> None:
     """Writes a model whose first lines say by what its forces are multiplied, if they are, and which factor is dead."""
-    models.put(name, ("" if scale == Scale() else scale.line()) + dead.line() + models.printed(model))
+    models.put(name, head(scale, dead) + models.printed(model))
+
+
+def head(scale: Scale, dead: Dead) -> str:
+    """The first lines of such a model."""
+    return ("" if scale == Scale() else scale.line()) + dead.line()
 
 
 def reversed_case(case: Case) -> Case:
