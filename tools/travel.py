@@ -137,8 +137,6 @@ class Group:
         for number in numbers:
             if not 1 <= number <= len(model.loads) or model.loads[number - 1].kind != "live":
                 raise Refused(f"there is no live load {number}")
-        if len(set(numbers)) < len(numbers):
-            raise Words("a load is named twice")
         self.model, self.numbers, self.made = model, [number - 1 for number in numbers], made
         pushes = {(model.loads[number].force[0] > 0) - (model.loads[number].force[0] < 0) for number in self.numbers}
         if faces and pushes not in ({1}, {-1}):
@@ -358,6 +356,8 @@ def travel(words: list[str]) -> int:
     if len(words) < (4 if is_inset else 2):
         raise Words("the form is MODEL N [faces] [inset D] [X ..] [kN FORCE] [m LENGTH]")
     loads = [whole(word, "N") for word in words[1].split(",")]
+    if len(set(loads)) < len(loads):
+        raise Words("a load is named twice")
     shorter = decimal(words[3], "D", Fraction(1, 10**6), models.COORDINATE) if is_inset else None
     given = [whole(word, "X", -models.COORDINATE, models.COORDINATE) for word in words[4 if is_inset else 2:]]
     with Progress("travel") as progress:
