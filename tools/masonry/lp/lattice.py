@@ -13,7 +13,6 @@ exact. Its unknowns are worked out where they are asked for.
 import random
 import sys
 from array import array
-from collections import defaultdict
 from collections.abc import Iterable, Mapping, Sequence
 from functools import cached_property
 from heapq import heappop, heappush
@@ -51,6 +50,11 @@ class Vector:
     def packed(self) -> int:
         """The shadow as one number, of which each of its own, less than 2^63 in size, takes 64 bits."""
         return packed(self.shadow)
+
+    @cached_property
+    def square(self) -> int:
+        """The square of the shadow's length."""
+        return squared(self.shadow)
 
     @cached_property
     def floats(self) -> list[float]:
@@ -99,26 +103,29 @@ def unpacked(number: int) -> list[int]:
 
 def combined(terms: Iterable[tuple[int, Vector]]) -> Vector:
     """The sum of vectors, each a number of times."""
-    made_of = [(times, vector) for times, vector in terms if times]
-    sums: defaultdict[int, int] = defaultdict(int)
-    size = 0
-    for times, vector in made_of:
-        size += abs(times) * vector.size
-        for row, amount in vector.sums.items():
-            sums[row] += times * amount
-    shadow, total = [0] * SHADOW, None
+    made_of = [term for term in terms if term[0]]
+    if not made_of:
+        return Vector({}, [0] * SHADOW)
+    size = sum([abs(times) * vector.size for times, vector in made_of])
     if size < 1 << 63:
-        total = 0
-        for times, vector in made_of:
-            total += times * vector.packed
-        shadow = unpacked(total)[:len(made_of[0][1].shadow) if made_of else SHADOW]
-    else:
-        for times, vector in made_of:
-            shadow = [x + times * y for x, y in zip(shadow, vector.shadow)]
-    found = Vector({row: amount for row, amount in sums.items() if amount}, shadow, made_of)
-    if total is not None:
+        total = sum([times * vector.packed for times, vector in made_of])
+        found = Vector(summed(made_of), unpacked(total)[:len(made_of[0][1].shadow)], made_of)
         found.packed = total
-    return found
+        return found
+    shadow = [0] * SHADOW
+    for times, vector in made_of:
+        shadow = [x + times * y for x, y in zip(shadow, vector.shadow)]
+    return Vector(summed(made_of), shadow, made_of)
+
+
+def summed(made_of: Iterable[tuple[int, Vector]]) -> Sums:
+    """The sums of vectors, each a number of times."""
+    sums: dict[int, int] = {}
+    had = sums.get
+    for times, vector in made_of:
+        for row, amount in vector.sums.items():
+            sums[row] = had(row, 0) + times * amount
+    return {row: amount for row, amount in sums.items() if amount}
 
 
 # Reduction
@@ -385,7 +392,7 @@ class Lattice:
                 return
             g = min(left, key=lambda g: (len(touching[g]), g))
             left.remove(g)
-            taken = sorted(touching[g].values(), key=lambda vector: squared(vector.shadow))
+            taken = sorted(touching[g].values(), key=lambda vector: vector.square)
             for vector in taken:
                 for other in self.reached(vector):
                     del touching[other][vector.number]

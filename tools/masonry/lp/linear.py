@@ -88,11 +88,13 @@ class Raised:
     amounts: Amounts
 
 
-def raised(structure: Structure) -> Raised:
-    """How far the live loads are raised. The dead loads are carried, and the live loads alone aren't: where they are,
-    factors rise without end, which esolver takes long to find."""
-    edges = range(len(structure.edges))
-    found = Program({"t": 1}, balance(structure, edges, structure.dead, {"t": structure.live})).reached()
+def raised(structure: Structure, most: int | None = None) -> Raised:
+    """How far the live loads are raised, up to a greatest factor if one is given. The dead loads are carried. Where the
+    live loads alone are carried too, factors rise without end, which esolver takes long to find without one."""
+    edges, bounds = range(len(structure.edges)), dict[str, tuple[Exact, Exact]]()
+    if most is not None:
+        bounds["t"] = 0, most
+    found = Program({"t": 1}, balance(structure, edges, structure.dead, {"t": structure.live}), bounds).reached()
     return Raised(found.value("t"), lowest(found.duals), amounts_of(found, edges))
 
 

@@ -25,6 +25,7 @@ from masonry.statics import GREATEST, Motion, NotFound, Structure, work
 from masonry.units import Scale, dead_of, scale_of
 
 MISSES = 3  # so many greatest factors without a certificate, and no more are looked for
+FAR = 10**12  # a factor that few structures with a limit carry
 PART = Fraction(1, 10**6)  # how far a share may be from the factor, as a part of it
 
 # Lines
@@ -189,11 +190,13 @@ class Case:
         dead = self.dead_forces()
         if dead is None:
             return self.collapse()
-        live = self.live_forces()
-        if live is not None:
-            return self.unbounded(dead, live)
         self.progress("the greatest factor")
-        top = linear.raised(self.structure)
+        top = linear.raised(self.structure, FAR)
+        if top.factor == FAR:
+            live = self.live_forces()
+            if live is not None:
+                return self.unbounded(dead, live)
+            top = linear.raised(self.structure)
         self.known.motions.append(top.motion)
         if self.known.misses < MISSES:
             try:

@@ -1,0 +1,121 @@
+#!/usr/bin/env python3
+"""Tests of masonry/lp/lattice.py and of the search for a scale, by hand. They call no other program.
+
+    python3 tools/tests/test_lattice.py
+"""
+import unittest
+from collections.abc import Sequence
+
+import helpers  # puts tools/ where the modules are found
+
+from masonry.lp.lattice import SHADOW, Lattice, Sums, Vector, divisible, packed, signs, unpacked
+from masonry.lp.short_certificates import least
+
+
+def area(rows: Sequence[Sequence[int]]) -> int:
+    """The area that two vectors in the plane span: of a basis of all whole points 1, of one of every second of them 2."""
+    (a, b), (c, d) = rows
+    return abs(a * d - b * c)
+
+
+def vectors(*sums: Sums) -> list[Vector]:
+    """Vectors of these sums, each of an unknown of its own."""
+    return [Vector(one, signs(number), unknown=number) for number, one in enumerate(sums)]
+
+
+class Combinations(unittest.TestCase):
+    """Whole combinations of a few vectors."""
+
+    def test_those_that_a_number_divides(self) -> None:
+        units = [(4, [1, 0]), (6, [0, 1])]
+        # 4x + 6y is 0 for the multiples of (3, -2), a multiple of 5 for a fifth of all points, and always even.
+        self.assertIn(divisible(units, 0), ([[3, -2]], [[-3, 2]]))
+        for modulus, fraction in (5, 5), (2, 1), (4, 2), (12, 6):
+            found = divisible(units, modulus)
+            self.assertEqual([(4 * x + 6 * y) % modulus for x, y in found], [0, 0])
+            self.assertEqual(area(found), fraction)
+        # A row whose number is 0 stays as it is; one alone that isn't 0 never comes to 0.
+        self.assertEqual(divisible([(0, [7])], 0), [[7]])
+        self.assertEqual(divisible([(3, [1])], 0), [])
+        self.assertEqual(divisible([(3, [1])], 12), [[4]])
+
+    def test_those_that_pivots_clear(self) -> None:
+        # 4x + 6y comes to all even numbers: 3 is cleared twice, and 3 and 5 together if the sum of both is even.
+        step = Lattice([{0: 4}, {0: 6}], [[0]]).steps[0]
+        self.assertEqual([abs(one.sums[0]) for one in step.clearable(vectors({0: 3}))], [6])
+        found = step.clearable(vectors({0: 3}, {0: 5}))
+        self.assertEqual([one.sums.get(0, 0) % 2 for one in found], [0, 0])
+        self.assertEqual(area([one.unknowns(2) for one in found]), 2)
+
+    def test_those_that_no_pivot_clears(self) -> None:
+        # Multiples of (1, 1) alone: never (1, 0), and (1, 0) and (0, 1) if there are as many of both.
+        step = Lattice([{0: 1, 1: 1}], [[0, 1]]).steps[0]
+        self.assertEqual(step.clearable(vectors({0: 1})), [])
+        found = step.clearable(vectors({0: 1}, {1: 1}))
+        self.assertIn([one.unknowns(2) for one in found], ([[1, 1]], [[-1, -1]]))
+
+
+class Loads(unittest.TestCase):
+    """The multiples of loads that whole vectors clear."""
+
+    def test_of_one_load(self) -> None:
+        # 4x + 6y + 3s is 0 only for an even s, and 2 is the least.
+        found = [one.unknowns(3) for one in Lattice([{0: 4}, {0: 6}], [[0]]).reaching([{0: 3}])]
+        self.assertEqual([(4 * x + 6 * y + 3 * s, abs(s)) for x, y, s in found], [(0, 2)])
+
+    def test_of_two_groups_of_rows(self) -> None:
+        # x + 2y + s = 0 and 3y - 6z + 4s = 0: s is a multiple of 3.
+        lattice = Lattice([{0: 1}, {0: 2, 1: 3}, {1: -6}], [[0], [1]])
+        found = [one.unknowns(4) for one in lattice.reaching([{0: 1, 1: 4}])]
+        self.assertEqual([(x + 2 * y + s, 3 * y - 6 * z + 4 * s, abs(s)) for x, y, z, s in found], [(0, 0, 3)])
+
+    def test_of_two_loads(self) -> None:
+        # 2x + s + 3t is 0 if s + t is even: a half of all pairs.
+        found = [one.unknowns(3) for one in Lattice([{0: 2}], [[0]]).reaching([{0: 1}, {0: 3}])]
+        self.assertEqual([2 * x + s + 3 * t for x, s, t in found], [0, 0])
+        self.assertEqual(area([(s, t) for _, s, t in found]), 2)
+
+    def test_a_load_that_nothing_carries(self) -> None:
+        self.assertEqual(Lattice([{0: 1}], [[0], [1]]).reaching([{1: 1}]), [])
+
+
+class Packed(unittest.TestCase):
+    """Numbers of 64 bits in one."""
+
+    def test_places(self) -> None:
+        for numbers, whole in ([1], 1), ([0, 1], 2**64), ([-1, 1], 2**64 - 1), ([2, -3], 2 - 3 * 2**64), ([], 0):
+            self.assertEqual(packed(numbers), whole)
+
+    def test_sums_are_those_of_the_numbers(self) -> None:
+        u, v = [2**62 - 1, -5, 0, 7], [-2**62, 4, -1, 2**61]
+        self.assertEqual(unpacked(packed(u) + packed(v)), [-1, -1, -1, 7 + 2**61] + [0] * (SHADOW - 4))
+        self.assertEqual(unpacked(3 * packed([-5, 7, -1]) - packed([1, 1])), [-16, 20, -3] + [0] * (SHADOW - 3))
+        longest = [2**63 - 1, 1 - 2**63] * (SHADOW // 2)
+        self.assertEqual(unpacked(packed(longest)), longest)
+
+
+class Likely(unittest.TestCase):
+    """The search for the least scale, which works from 37 bits on, with a scale that is likely."""
+
+    def found(self, likely: int) -> tuple[int | None, list[int]]:
+        tried: list[int] = []
+
+        def works(bits: int) -> int | None:
+            tried.append(bits)
+            return bits if bits >= 37 else None
+
+        return least(works, 127, lambda: likely), tried
+
+    def test_a_scale_that_is_right_is_tried_first(self) -> None:
+        self.assertEqual(self.found(37), (37, [127, 37, 36]))
+
+    def test_a_scale_that_is_wrong_costs_time_alone(self) -> None:
+        for likely in -5, 0, 20, 60, 127, 500:
+            self.assertEqual(self.found(likely)[0], 37)
+
+    def test_none_works(self) -> None:
+        self.assertIsNone(least(lambda bits: None, 127, lambda: 3))
+
+
+if __name__ == "__main__":
+    unittest.main()
