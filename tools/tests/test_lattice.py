@@ -13,7 +13,7 @@ from masonry.lp.short_certificates import least
 
 
 def area(rows: Sequence[Sequence[int]]) -> int:
-    """The area that two vectors in the plane span: of a basis of all whole points 1, of one of every second of them 2."""
+    """The area that two vectors in the plane span: 1 of a basis of all whole points, 2 of every second one."""
     (a, b), (c, d) = rows
     return abs(a * d - b * c)
 

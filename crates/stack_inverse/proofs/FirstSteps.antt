@@ -7,7 +7,7 @@ use Rattle.stack_table.specs.declared.problem.Entry.{Entry}
 use Rattle.stack_table.specs.Problem.{turned}
 use Rattle.stack_inverse.specs.declared.columns.Cell.{Cell}
 use Rattle.stack_rows.specs.RowForm.{number_at}
-use Rattle.stack_inverse.specs.Columns.{RowSeen, IsPut}
+use Rattle.stack_inverse.specs.Columns.{RowSeen, multipliers, IsPut}
 use Rattle.stack_inverse.specs.FirstTable.{flips, load_at, AreTurned, IsFirstRow, less_loads}
 use Rattle.stack_inverse.proofs.TurnedColumns.{turned_more}
 
@@ -48,8 +48,9 @@ module _ {m : ℕ} {s t : ℕ → RowSeen} {row : List ℤ} {i : ℕ} (p : IsPut
       }
 
   -- and it is one more
-  pub rows_more : ((j : ℕ) → number_at row j ≡ cond (eqb j m) (loads i) (cond (eqb j i) (pos 1) (pos 0))) → (k : ℕ) →
-      k < i + 1 → IsFirstRow m t k (loads k)
+  pub rows_more : ((j : ℕ) → number_at row j
+      ≡ cond (eqb j (multipliers m)) (loads i) (cond (eqb j i) (pos 1) (pos 0))) → (k : ℕ) → k < i + 1 →
+      IsFirstRow m t k (loads k)
   rows_more is = below_more (λ k. IsFirstRow m t k (loads k)) i rows_kept (record {
     number = λ j. ap (λ xs. number_at xs j) p.own_numbers ∙ is j;
     under = p.own_under;

@@ -1,5 +1,5 @@
 -- The table with which a run begins is the written table of its problem.
-use Rattle.std.proofs.Common.{◌≡◌, ◌≢◌, refl, sym, ap, ◌∙◌, ℕ, zero, suc, ◌+◌, ◌-◌, ◌<◌, ◌≤◌, true, cond}
+use Rattle.std.proofs.Common.{◌≡◌, refl, sym, ap, ◌∙◌, ℕ, zero, suc, ◌+◌, ◌-◌, ◌<◌, ◌≤◌, cond}
 use Rattle.std.proofs.Common.{eqb, ltb, List, length, get_or, arith, Option, Some, None, is_some}
 use Rattle.std.proofs.Common.{ℤ, pos, negsuc, neg_ℤ, ◌+ℤ◌, ◌-ℤ◌}
 use Rattle.std.proofs.Common.{◌*ℤ◌}
@@ -19,12 +19,11 @@ use Rattle.stack_table.proofs.FirstObjective.{artificial_yes, artificial_not}
 use Rattle.stack_table.proofs.RowByRow.{objective_beyond}
 use Rattle.stack_inverse.specs.declared.columns.FirstColumn.{FirstColumn}
 use Rattle.stack_rows.specs.RowForm.{number_at}
-use Rattle.stack_inverse.specs.Columns.{combined, by_place, number, plain_own, cells_at, rises, first_at, revised_own}
-use Rattle.stack_inverse.specs.Columns.{RowSeen, no_row, cell_with, revised_cell}
-use Rattle.stack_inverse.specs.FirstTable.{load_at, AreFirstColumns, less_cells, less_loads, AreFilled}
-use Rattle.stack_inverse.proofs.FirstRows.{own_row}
-use Rattle.stack_inverse.proofs.FirstRows as first
-use Rattle.stack_inverse.proofs.TurnedColumns.{entry_turned, less_rows}
+use Rattle.stack_inverse.specs.Columns.{multipliers, combined, by_place, number, cells_at, first_at, RowSeen, no_row}
+use Rattle.stack_inverse.specs.Columns.{cell_with, revised_cell}
+use Rattle.stack_inverse.specs.FirstTable.{load_at, AreFirstColumns, less_loads, AreFilled}
+use Rattle.stack_inverse.proofs.FirstRows.{unit_row, nothing_row}
+use Rattle.stack_inverse.proofs.TurnedColumns.{entries_are, entry_is, first_cost}
 
 -- the opposite of an integer
 neg_of : (z : ℤ) → neg (of z) ≡ of (neg_ℤ z)
@@ -42,21 +41,17 @@ less_all_of (suc n) f = (λ z. add (less_all_of n f z) (neg_of (f n) z))
     together : (s x : ℤ) → (pos 0 -ℤ s) +ℤ neg_ℤ x ≡ pos 0 -ℤ (s +ℤ x)
     together s x = omega (arith, ints)
 
--- a number depends on the artificial numbers and the own cells that are there
-number_same : (m n : ℕ) (F : ℕ → ℕ → ℤ) (own own' : ℕ → ℤ) (d : ℤ) (a b : ℕ → ℤ) (s t : ℤ) →
-    ((r : ℕ) → r < m → a r ≡ b r) → s ≡ t → (j : ℕ) → own j ≡ own' j →
-    number m n F own d a s j ≡ number m n F own' d b t j
-number_same m n F own own' d a b s t h hs j ho =
-    let plain : combined m a (λ r. F r j) ≡ combined m b (λ r. F r j) = sum_same integers m (λ r. a r *ℤ F r j)
-    (λ r. b r *ℤ F r j) (λ r l. ap (λ z. z *ℤ F r j) (h r l)) in
+-- a number depends on the multipliers that are there
+number_same : (m n : ℕ) (F : ℕ → ℕ → ℤ) (a b : ℕ → ℤ) (s t : ℤ) → ((r : ℕ) → r < multipliers m → a r ≡ b r) → s ≡ t →
+    (j : ℕ) → number m n F a s j ≡ number m n F b t j
+number_same m n F a b s t h hs j =
+    let plain : combined (multipliers m) a (λ r. F r j) ≡ combined (multipliers m) b (λ r. F r j) =
+    sum_same integers (multipliers m) (λ r. a r *ℤ F r j) (λ r. b r *ℤ F r j) (λ r l. ap (λ z. z *ℤ F r j) (h r l)) in
     grind (arith, nat_tests, h (j - n))
 
 -- the numbers of the first table by row and column, of a problem whose columns are turned
-module _ (P : Lent) (problem : IsProblem P) (cs : List FirstColumn) (own : List ℤ)
-    (s : ℕ → RowSeen)
-    (long : length cs ≡ plain (shape_of_problem P)) (turned_cells : AreFirstColumns P cs)
-    (rising : (j : ℕ) → j < length cs → rises P.rows 0 (cells_at cs j) ≡ true)
-    (own_is : (j : ℕ) → j < length cs → number_at own j ≡ less_cells (cells_at cs j))
+module _ (P : Lent) (problem : IsProblem P) (cs : List FirstColumn) (s : ℕ → RowSeen)
+    (long : length cs ≡ plain (shape_of_problem P)) (are : AreFirstColumns P cs)
     (past : (i : ℕ) → P.rows < i → s i ≡ no_row)
     (filled : AreFilled P.rows P.right.items s) where
   abbrev S : Shape
@@ -75,46 +70,40 @@ module _ (P : Lent) (problem : IsProblem P) (cs : List FirstColumn) (own : List 
   Q = problem_of P
 
   -- what the first rows have in a plain column
-  plain_number : (i j : ℕ) → j < n → F i j ≡ turned (flipped Q i) (Q.entry i j)
-  plain_number i j l = entry_turned P.right.items (entries_at P j) (cells_at cs j) (turned_cells j l) i
+  plain_number : (i j : ℕ) → i < m → j < n → F i j ≡ turned (flipped Q i) (Q.entry i j)
+  plain_number i j k l = entry_is m P.right.items (eqb j (length P.contact.items)) (entries_at P j) (cells_at cs j)
+      (are j l) (entries_are P problem j) i k
 
   -- the cell by its row's numbers
-  cell_of_row : (i : ℕ) (a o : ℕ → ℤ) (x : ℤ) → ((r : ℕ) → r < m → number_at (s i).numbers r ≡ a r) →
-      number_at (s i).numbers m ≡ x → (s i).under ≡ pos 1 → (j : ℕ) →
-      revised_own m own i j ≡ o j → revised_cell m cs own s i j ≡ of (number m n F o (pos 1) a x j)
-  cell_of_row i a o x ha hs hd j ho = (λ z. cell_with m cs (revised_own m own i) (s i).numbers (hd z) j)
-      ∙ ap (λ z. over z (pos 1)) (number_same m n F (revised_own m own i) o (pos 1)
-      (number_at (s i).numbers) a (number_at (s i).numbers m) x ha hs j ho)
-      ∙ of-over (number m n F o (pos 1) a x j)
+  cell_of_row : (i : ℕ) (a : ℕ → ℤ) (x : ℤ) → ((r : ℕ) → r < multipliers m → number_at (s i).numbers r ≡ a r) →
+      number_at (s i).numbers (multipliers m) ≡ x → (s i).under ≡ pos 1 → (j : ℕ) →
+      revised_cell m cs s i j ≡ of (number m n F a x j)
+  cell_of_row i a x ha hs hd j = (λ z. cell_with m cs (s i).numbers (hd z) j)
+      ∙ ap (λ z. over z (pos 1)) (number_same m n F (number_at (s i).numbers) a
+      (number_at (s i).numbers (multipliers m)) x ha hs j)
+      ∙ of-over (number m n F a x j)
 
-  -- own cells stand in the objective row alone
-  no_own : (i j : ℕ) → i ≢ m → revised_own m own i j ≡ pos 0
-  no_own i j d = grind (arith, nat_tests)
-
-  number_of_row : (i j : ℕ) → i < m → number m n F plain_own (pos 1) (at integers i (pos 1)) (load_at P.right.items i) j
+  number_of_row : (i j : ℕ) → i < m → number m n F (at integers i (pos 1)) (load_at P.right.items i) j
       ≡ number_in Q i j
   number_of_row i j l =
       let placed : by_place (ltb j n) (ltb j (n + m)) (eqb j (n + m)) (F i j) (at integers i (pos 1) (j - n))
-      (load_at P.right.items i) ≡ number_in Q i j = grind (arith, nat_tests, plain_number i j) in
-      first.first_row m n F i (load_at P.right.items i) j l ∙ placed
+      (load_at P.right.items i) ≡ number_in Q i j = grind (arith, nat_tests, plain_number i j l) in
+      unit_row m n F i (load_at P.right.items i) j (omega (arith, l)) ∙ placed
 
-  above : (i j : ℕ) → i < m → revised_cell m cs own s i j ≡ first_row ordered_fractions Q i j
+  above : (i j : ℕ) → i < m → revised_cell m cs s i j ≡ first_row ordered_fractions Q i j
   above i j l =
-      let units : (r : ℕ) → r < m → number_at (s i).numbers r ≡ at integers i (pos 1) r =
+      let units : (r : ℕ) → r < multipliers m → number_at (s i).numbers r ≡ at integers i (pos 1) r =
       λ r k. grind (arith, nat_tests, (filled.rows i l).number r) in
-      let load : number_at (s i).numbers m ≡ load_at P.right.items i =
-      grind (arith, nat_tests, (filled.rows i l).number m) in
-      cell_of_row i (at integers i (pos 1)) plain_own (load_at P.right.items i) units load (filled.rows i l).under j
-      (no_own i j (λ e. omega (arith, l, e))) ∙ ap of (number_of_row i j l)
+      let load : number_at (s i).numbers (multipliers m) ≡ load_at P.right.items i =
+      grind (arith, nat_tests, (filled.rows i l).number (multipliers m)) in
+      cell_of_row i (at integers i (pos 1)) (load_at P.right.items i) units load (filled.rows i l).under j
+      ∙ ap of (number_of_row i j l)
 
-  below : (i j : ℕ) → m < i → revised_cell m cs own s i j ≡ first_row ordered_fractions Q i j
-  below i j l =
-      let nothing : by_place (ltb j n) (ltb j (n + m)) (eqb j (n + m)) (pos 0) (pos 0) (pos 0) ≡ pos 0 =
-      grind (arith, nat_tests) in
-      cell_of_row i (λ r. pos 0) plain_own (pos 0) (λ r k. ap (λ (x : RowSeen). number_at x.numbers r) (past i l))
-      (ap (λ (x : RowSeen). number_at x.numbers m) (past i l))
-      (ap (λ (x : RowSeen). x.under) (past i l)) j (no_own i j (λ e. omega (arith, l, e)))
-      ∙ ap of (own_row m n F plain_own (pos 0) j ∙ nothing)
+  below : (i j : ℕ) → m < i → revised_cell m cs s i j ≡ first_row ordered_fractions Q i j
+  below i j l = cell_of_row i (λ r. pos 0) (pos 0) (λ r k. ap (λ (x : RowSeen). number_at x.numbers r) (past i l))
+      (ap (λ (x : RowSeen). number_at x.numbers (multipliers m)) (past i l))
+      (ap (λ (x : RowSeen). x.under) (past i l)) j
+      ∙ ap of (nothing_row m n F j)
       ∙ sym (ap of (number_past P problem i (omega (arith, l)) j))
 
   -- outside the artificial columns the objective row has 0 less the sum of a column
@@ -126,15 +115,16 @@ module _ (P : Lent) (problem : IsProblem P) (cs : List FirstColumn) (own : List 
 
   -- the number of the objective row
   abbrev placed : ℕ → ℤ
-  placed j = by_place (ltb j n) (ltb j (n + m)) (eqb j (n + m)) (number_at own j) (pos 0)
+  placed j = by_place (ltb j n) (ltb j (n + m)) (eqb j (n + m)) (F m j) (at integers m (pos 1) (j - n))
       (less_loads P.right.items m)
 
   in_plain : (j : ℕ) → j < n → of (placed j) ≡ first_objective ordered_fractions Q j
   in_plain j l =
-      let here : placed j ≡ number_at own j = grind (arith, nat_tests) in
-      let entries : (i : ℕ) → number_in Q i j ≡ F i j = λ i. grind (arith, nat_tests, plain_number i j l) in
-      ap of (here ∙ own_is j l ∙ sym (less_rows m (cells_at cs j) (rising j l)))
-      ∙ sym (summed j (λ k. omega (arith, k, l, long)) (λ i. F i j) entries)
+      let here : placed j ≡ F m j = grind (arith, nat_tests) in
+      let entries : (i : ℕ) → number_in Q i j ≡ turned (flipped Q i) (Q.entry i j) = λ i. grind (arith, nat_tests) in
+      ap of (here ∙ first_cost m P.right.items (eqb j (length P.contact.items)) (entries_at P j) (cells_at cs j)
+      (are j l) (entries_are P problem j))
+      ∙ sym (summed j (λ k. omega (arith, k, l, long)) (λ i. turned (flipped Q i) (Q.entry i j)) entries)
 
   in_artificial : (j : ℕ) → n ≤ j → j < n + m → of (placed j) ≡ first_objective ordered_fractions Q j
   in_artificial j k l =
@@ -154,17 +144,18 @@ module _ (P : Lent) (problem : IsProblem P) (cs : List FirstColumn) (own : List 
       let here : placed j ≡ pos 0 = grind (arith, nat_tests) in
       ap of here ∙ sym (objective_beyond Q j (omega (arith, l, long)))
 
-  objective_is : (j : ℕ) → revised_cell m cs own s m j ≡ first_objective ordered_fractions Q j
+  objective_is : (j : ℕ) → revised_cell m cs s m j ≡ first_objective ordered_fractions Q j
   objective_is j =
-      let none : (r : ℕ) → r < m → number_at (s m).numbers r ≡ pos 0 = λ r k. grind (arith, nat_tests, filled.last r) in
-      let load : number_at (s m).numbers m ≡ less_loads P.right.items m = grind (arith, nat_tests, filled.last m) in
-      let own_cell : revised_own m own m j ≡ number_at own j = grind (arith, nat_tests) in
-      cell_of_row m (λ r. pos 0) (number_at own) (less_loads P.right.items m) none load filled.under j own_cell
-      ∙ ap of (own_row m n F (number_at own) (less_loads P.right.items m) j)
+      let unit : (r : ℕ) → r < multipliers m → number_at (s m).numbers r ≡ at integers m (pos 1) r =
+      λ r k. grind (arith, nat_tests, filled.last r) in
+      let load : number_at (s m).numbers (multipliers m) ≡ less_loads P.right.items m =
+      grind (arith, nat_tests, filled.last (multipliers m)) in
+      cell_of_row m (at integers m (pos 1)) (less_loads P.right.items m) unit load filled.under j
+      ∙ ap of (unit_row m n F m (less_loads P.right.items m) j (omega arith))
       ∙ grind (arith, in_plain j, in_artificial j, in_last j, beyond j)
 
   -- each cell is that of the written table
-  pub first_cell : (i j : ℕ) → revised_cell m cs own s i j
+  pub first_cell : (i j : ℕ) → revised_cell m cs s i j
       ≡ changed (first_row ordered_fractions Q) m (first_objective ordered_fractions Q) i j
   first_cell i j = grind (arith, nat_tests, objective_is j, above i j, below i j)
 

@@ -8,7 +8,7 @@ use Rattle.stack_bland.specs.Choice.{is_negative_sign}
 use Rattle.stack_bland.specs.Found.{TellsFound}
 use Rattle.stack_inverse.specs.declared.columns.FirstColumn.{FirstColumn}
 use Rattle.stack_inverse.specs.declared.row.TableRow.{TableRow}
-use Rattle.stack_inverse.specs.Columns.{RowSeen, revised_own, number_with}
+use Rattle.stack_inverse.specs.Columns.{RowSeen, number_with}
 use Rattle.stack_inverse.specs.RowsSeen.{seen_of, seen_at}
 use Rattle.stack_inverse.specs.Marks.{AreClean, least_negative}
 use Rattle.stack_inverse.proofs.PutRow.{seen_get}
@@ -42,10 +42,10 @@ module _ (n m : ℕ) (p : ℕ → Bool) (l : m ≤ n) where
       sym (least_none m p (λ k q. s.none_before k (omega (arith, b, q))))
 
 -- the objective row, where it is lent
-module _ (m : ℕ) (columns : List FirstColumn) (own : List ℤ) (rows : List TableRow) (x : TableRow)
+module _ (m : ℕ) (columns : List FirstColumn) (rows : List TableRow) (x : TableRow)
     (height : length rows ≡ suc m) (e : x ≡ get_or rows m x) where
   abbrev its : RowSeen → ℕ → ℤ
-  its s = number_with m columns (revised_own m own m) s.numbers s.under
+  its s = number_with m columns s.numbers
 
   is_it : seen_of x ≡ seen_at rows m
   is_it = seen_get rows m x (omega (arith, height)) e

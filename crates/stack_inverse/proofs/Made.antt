@@ -7,7 +7,7 @@ use Rattle.stack_rational.proofs.Common.{ints, expand, sums, sum_of, get_or-map}
 use Rattle.stack_inverse.specs.declared.columns.Cell.{Cell}
 use Rattle.stack_inverse.specs.declared.columns.FirstColumn.{FirstColumn}
 use Rattle.stack_rows.specs.RowForm.{number_at}
-use Rattle.stack_inverse.specs.Columns.{rises, cells_at, number_with, revised_own}
+use Rattle.stack_inverse.specs.Columns.{multipliers, rises, cells_at, number_with}
 use Rattle.stack_rows.proofs.Items.{at-index}
 use Rattle.stack_inverse.proofs.Entered.{rises_of, over_entries}
 
@@ -25,18 +25,14 @@ one_more f cells k d sum next total l e h =
     rw add-one (omega (arith, ints, ap (sum_of f) (drop-cons cells k d l), e, h))
 
 -- the sum over the cells of its column makes a number
-pub number_made : (m : ℕ) (columns : List FirstColumn) (o : ℕ → ℤ) (row : List ℤ) (d : ℤ) (j : ℕ) →
-    j < length columns → rises m 0 (cells_at columns j) ≡ true → (cells : List Cell) → cells ≡ cells_at columns j →
-    (start : ℤ) → start ≡ d *ℤ o j →
-    start +ℤ sum_of (λ x. number_at row x.row *ℤ x.value) cells ≡ number_with m columns o row d j
-number_made m columns o row d j lt rising cells is start e =
+pub number_made : (m : ℕ) (columns : List FirstColumn) (row : List ℤ) (j : ℕ) → j < length columns →
+    rises (multipliers m) 0 (cells_at columns j) ≡ true → (cells : List Cell) → cells ≡ cells_at columns j →
+    sum_of (λ x. number_at row x.row *ℤ x.value) cells ≡ number_with m columns row j
+number_made m columns row j lt rising cells is =
+    let M = multipliers m in
     let f = λ (x : Cell). number_at row x.row *ℤ x.value in
-    let all = over_entries m 0 (number_at row) (cells_at columns j) (rises_of m 0 (cells_at columns j) rising) in
+    let all = over_entries M 0 (number_at row) (cells_at columns j) (rises_of M 0 (cells_at columns j) rising) in
     grind (arith, nat_tests, all, ap (sum_of f) is)
-
--- no own number
-pub no_own : (d : ℤ) → pos 0 ≡ d *ℤ pos 0
-no_own d = simp expand (omega (arith, sums))
 
 -- the sum of products with nothing
 none_of : (row : List ℤ) (cells : List Cell) → AllByRecursion (λ x. number_at row x.row ≡ pos 0) cells →
@@ -47,16 +43,12 @@ none_of row (x ∷ xs) h = (λ z. h.0 z *ℤ x.value +ℤ none_of row xs h.1 z) 
     zero_times : (v : ℤ) → pos 0 *ℤ v +ℤ pos 0 ≡ pos 0
     zero_times v = simp expand (omega (arith, sums))
 
--- a row but the objective row has nothing in a column if it has nothing at the column's cells
-pub nothing_made : (m : ℕ) (columns : List FirstColumn) (own row : List ℤ) (d : ℤ) (i j : ℕ) → i < m →
-    j < length columns → rises m 0 (cells_at columns j) ≡ true →
-    AllByRecursion (λ x. number_at row x.row ≡ pos 0) (cells_at columns j) →
-    pos 0 ≡ number_with m columns (revised_own m own i) row d j
-nothing_made m columns own row d i j below lt rising h =
-    let bare : revised_own m own i j ≡ pos 0 = grind (arith, nat_tests) in
-    sym (ap (λ z. pos 0 +ℤ z) (none_of row (cells_at columns j) h))
-    ∙ number_made m columns (revised_own m own i) row d j lt rising (cells_at columns j) refl (pos 0)
-    (no_own d ∙ ap (λ z. d *ℤ z) (sym bare))
+-- a row has nothing in a column if it has nothing at the column's cells
+pub nothing_made : (m : ℕ) (columns : List FirstColumn) (row : List ℤ) (j : ℕ) → j < length columns →
+    rises (multipliers m) 0 (cells_at columns j) ≡ true →
+    AllByRecursion (λ x. number_at row x.row ≡ pos 0) (cells_at columns j) → pos 0 ≡ number_with m columns row j
+nothing_made m columns row j lt rising h = sym (none_of row (cells_at columns j) h)
+    ∙ number_made m columns row j lt rising (cells_at columns j) refl
 
 -- the cells of a column that is lent
 pub cells_of : (columns : List FirstColumn) (j : ℕ) (x : FirstColumn) → j < length columns →

@@ -3,15 +3,14 @@ use Rattle.std.proofs.Common.{◌≡◌, ◌≢◌, sym, ap, ◌∙◌, ℕ, suc
 use Rattle.std.proofs.Common.{refl, true, ◌*ℤ◌, ◌+ℤ◌}
 use lib.IntN.{ℤ_discrete}
 use Rattle.std.specs.List.{AllByRecursion}
-use Rattle.std.proofs.lemmas.Bool.Decides.{nat_tests}
-use Rattle.stack_rational.proofs.Common.{◌≺◌, next, ordered_fractions, sum_of, expand, sums}
+use Rattle.stack_rational.proofs.Common.{◌≺◌, next, ordered_fractions, sum_of}
 use Rattle.stack_rational.proofs.Common.{zero-*ℤ}
 use Rattle.stack_bland.specs.Choice.{is_negative_sign}
 use Rattle.stack_inverse.specs.declared.columns.FirstColumn.{FirstColumn}
 use Rattle.stack_inverse.specs.declared.columns.Cell.{Cell}
 use Rattle.stack_inverse.specs.declared.marks.Marks.{Marks}
 use Rattle.stack_rows.specs.RowForm.{number_at}
-use Rattle.stack_inverse.specs.Columns.{RowSeen, revised_own, revised_cell, revised_number}
+use Rattle.stack_inverse.specs.Columns.{RowSeen, multipliers, revised_cell, revised_number}
 use Rattle.stack_inverse.specs.Columns.{cells_at, rises}
 use Rattle.stack_inverse.specs.Marks.{mark_at, AreUses, AreClean, AreMarkedOn}
 use Rattle.stack_inverse.proofs.Entered.{Rises, rises_of}
@@ -29,46 +28,36 @@ nothing_sums m from row marked (x ∷ xs) h none all =
     ap (λ z. z *ℤ x.value) (none x.row h.1 all.0) ∙ zero-*ℤ x.value in
     (λ z. here z +ℤ rest z)
 
-module _ (m : ℕ) (columns : List FirstColumn) (own : List ℤ) (s t : ℕ → RowSeen) (r c : ℕ) (l : r < m)
+module _ (m : ℕ) (columns : List FirstColumn) (s t : ℕ → RowSeen) (r c : ℕ) (l : r < m)
     (ps : (i : ℕ) → pos 0 ≺ (s i).under) (pt : (i : ℕ) → pos 0 ≺ (t i).under)
-    (rising : (j : ℕ) → j < length columns → rises m 0 (cells_at columns j) ≡ true)
-    (is : (i j : ℕ) → revised_cell m columns own t i j
-    ≡ next ordered_fractions (revised_cell m columns own s) r c i j) where
-  -- a row without own cells has nothing in a column in whose rows it has nothing
+    (rising : (j : ℕ) → j < length columns → rises (multipliers m) 0 (cells_at columns j) ≡ true)
+    (is : (i j : ℕ) → revised_cell m columns t i j
+    ≡ next ordered_fractions (revised_cell m columns s) r c i j) where
+  -- a row has nothing in a column in whose rows it has nothing
   row_nothing : (j : ℕ) → j < length columns →
       sum_of (λ x. number_at (t r).numbers x.row *ℤ x.value) (cells_at columns j) ≡ pos 0 →
-      revised_number m columns own t r j ≡ pos 0
-  row_nothing j lt e = sym (number_made m columns (revised_own m own r) (t r).numbers (t r).under j lt (rising j lt)
-      (cells_at columns j) refl (pos 0) start) ∙ ap (λ z. pos 0 +ℤ z) e
-    where
-      bare : revised_own m own r j ≡ pos 0
-      bare = grind (arith, nat_tests)
-
-      times : (d : ℤ) → pos 0 ≡ d *ℤ pos 0
-      times d = simp expand (omega (arith, sums))
-
-      start : pos 0 ≡ (t r).under *ℤ revised_own m own r j
-      start = times (t r).under ∙ ap (λ z. (t r).under *ℤ z) (sym bare)
+      revised_number m columns t r j ≡ pos 0
+  row_nothing j lt e = sym (number_made m columns (t r).numbers j lt (rising j lt) (cells_at columns j) refl) ∙ e
 
   -- the objective row isn't negative in a column without a mark
   pub columns_kept : (places uses new_places : List Marks) (marks new_marks touched : List ℕ) →
-      AreMarkedOn places uses marks (t r).numbers touched new_places new_marks → length uses ≡ m →
-      AreUses uses columns → AreClean (revised_number m columns own s m) (length columns) marks →
-      AreClean (revised_number m columns own t m) (length columns) new_marks
+      AreMarkedOn places uses marks (t r).numbers touched new_places new_marks → length uses ≡ multipliers m →
+      AreUses uses columns → AreClean (revised_number m columns s m) (length columns) marks →
+      AreClean (revised_number m columns t m) (length columns) new_marks
   columns_kept places uses new_places marks new_marks touched k few used was j lt z =
-      ap is_negative_sign (same_sign (revised_number m columns own t m j) (t m).under
-      (revised_number m columns own s m j) (s m).under (pt m) (ps m) stays)
+      ap is_negative_sign (same_sign (revised_number m columns t m j) (t m).under
+      (revised_number m columns s m j) (s m).under (pt m) (ps m) stays)
       ∙ was j lt (k.marks_kept j z)
     where
-      none : (q : ℕ) → q < m → mark_at uses q j ≢ 0 → number_at (t r).numbers q ≡ pos 0
+      none : (q : ℕ) → q < multipliers m → mark_at uses q j ≢ 0 → number_at (t r).numbers q ≡ pos 0
       none q lq n = elim (ℤ_discrete (number_at (t r).numbers q) (pos 0)) [
         | yes p ↦ p
         | no d ↦ absurd (n (k.unused q j (omega (arith, lq, few)) d z))
       ]
 
-      stays : revised_cell m columns own t m j ≡ revised_cell m columns own s m j
-      stays = column_stays (revised_cell m columns own s) (revised_cell m columns own t) r c is m j
+      stays : revised_cell m columns t m j ≡ revised_cell m columns s m j
+      stays = column_stays (revised_cell m columns s) (revised_cell m columns t) r c is m j
           (λ e. omega (arith, l, e))
-          (zero_over (revised_number m columns own t r j) (t r).under (pt r) (row_nothing j lt
-          (nothing_sums m 0 (t r).numbers (λ q. mark_at uses q j ≢ 0) (cells_at columns j)
-          (rises_of m 0 (cells_at columns j) (rising j lt)) none (used j lt))))
+          (zero_over (revised_number m columns t r j) (t r).under (pt r) (row_nothing j lt
+          (nothing_sums (multipliers m) 0 (t r).numbers (λ q. mark_at uses q j ≢ 0) (cells_at columns j)
+          (rises_of (multipliers m) 0 (cells_at columns j) (rising j lt)) none (used j lt))))

@@ -1,7 +1,7 @@
--- What a pivot leaves as it is: where a cell in the pivot's column, or one of the pivot's row, is 0.
-use Rattle.std.proofs.Common.{◌≡◌, ◌≢◌, refl, sym, ap, ◌∙◌, ℕ, zero, suc, eq-eqb, ne_eqb, cond, ℤ, pos, negsuc}
+-- What a pivot leaves as it is: a column in which the pivot's row is 0.
+use Rattle.std.proofs.Common.{◌≡◌, ◌≢◌, refl, sym, ap, ◌∙◌, ℕ, eq-eqb, ne_eqb, cond, ℤ, pos, negsuc}
 use Rattle.stack_rational.proofs.Common.{Fraction, ◌≺◌, add, mul, neg, neg_is, of, over, inv, next, ordered_fractions}
-use Rattle.stack_rational.proofs.Common.{sign_of, nought}
+use Rattle.stack_rational.proofs.Common.{sign_of}
 use Rattle.stack_algebra.proofs.Fractions.{add_comm, mul_comm, zero_add, zero_mul}
 use Rattle.stack_rows.proofs.RatioSigns.{cell_sign}
 use Rattle.stack_inverse.proofs.Steps.{over_zero}
@@ -15,20 +15,9 @@ less_zero : (x k : Fraction) → k ≡ of (pos 0) → add x (neg k) ≡ x
 less_zero x k e = ap (λ z. add x z) (ap neg e ∙ neg_is (of (pos 0)) ∙ times_zero (of (negsuc 0)) (of (pos 0)) refl)
     ∙ add_comm x (of (pos 0)) ∙ zero_add x
 
--- only 0 has the sign of 0
-by_sign : (n : ℤ) → sign_of n ≡ nought → n ≡ pos 0
-by_sign (pos zero) e = refl
-by_sign (pos (suc n)) e = absurd cc
-by_sign (negsuc n) e = absurd cc
-
 -- a cell is 0 where its number is
 pub zero_over : (n d : ℤ) → pos 0 ≺ d → n ≡ pos 0 → over n d ≡ of (pos 0)
 zero_over n d h e = ap (λ z. over z d) e ∙ over_zero d h
-
--- and only there
-pub zero_number : (n d : ℤ) → pos 0 ≺ d → over n d ≡ of (pos 0) → n ≡ pos 0
-zero_number n d h e = by_sign n
-    (sym (cell_sign n d h) ∙ ap (λ (x : Fraction). sign_of x.num) e ∙ ordered_fractions.sign-zero)
 
 -- numbers of the same cell have the same sign
 pub same_sign : (n d k e : ℤ) → pos 0 ≺ d → pos 0 ≺ e → over n d ≡ over k e → sign_of n ≡ sign_of k
@@ -47,16 +36,7 @@ module _ (old new : ℕ → ℕ → Fraction) (r c : ℕ)
       (add (old i j) (neg (mul (old i c) (mul (inv (old r c)) (old r j)))))) (ne_eqb i r n)
       ∙ ap (λ z. add (old i j) (neg (mul (old i c) z))) (sym (row_is j))
 
-  -- a cell of the pivot's row that is 0 stays so
-  pub row_zero : (j : ℕ) → old r j ≡ of (pos 0) → new r j ≡ of (pos 0)
-  row_zero j e = row_is j ∙ times_zero (inv (old r c)) (old r j) e
-
-  -- a row whose cell in the pivot's column is 0 stays
-  pub row_stays : (i j : ℕ) → i ≢ r → old i c ≡ of (pos 0) → new i j ≡ old i j
-  row_stays i j n e = other_is i j n
-      ∙ less_zero (old i j) (mul (old i c) (new r j)) (ap (λ z. mul z (new r j)) e ∙ zero_mul (new r j))
-
-  -- and a column in which the pivot's row is 0
+  -- a column in which the pivot's row is 0 stays
   pub column_stays : (i j : ℕ) → i ≢ r → new r j ≡ of (pos 0) → new i j ≡ old i j
   column_stays i j n e = other_is i j n
       ∙ less_zero (old i j) (mul (old i c) (new r j)) (times_zero (old i c) (new r j) e)

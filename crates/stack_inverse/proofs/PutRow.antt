@@ -7,7 +7,7 @@ use Rattle.stack_rational.proofs.Common.{with_items_is}
 use Rattle.stack_rows.proofs.Items.{at-index, at-set_same, at-set_other, at-past}
 use Rattle.stack_inverse.specs.declared.row.TableRow.{TableRow}
 use Rattle.stack_inverse.specs.RowBlock.{AllNumbersFit, AreFitting}
-use Rattle.stack_inverse.specs.Columns.{RowSeen, no_row, HaveWidths, IsPut}
+use Rattle.stack_inverse.specs.Columns.{RowSeen, no_row, multipliers, HaveWidths, IsPut}
 use Rattle.stack_inverse.specs.RowsSeen.{seen_of, seen_at}
 
 -- a vector that is written through a slice has what is written
@@ -41,7 +41,7 @@ seen_get rows i x l e = sym (at-index seen_of no_row rows i x l e)
 
 -- its width
 pub width_get : (m : ℕ) (rows : List TableRow) (i : ℕ) (x : TableRow) → length rows ≡ suc m → i ≤ m →
-    HaveWidths m (seen_at rows) → x ≡ get_or rows i x → length x.row.numbers.items ≡ suc m
+    HaveWidths m (seen_at rows) → x ≡ get_or rows i x → length x.row.numbers.items ≡ suc (multipliers m)
 width_get m rows i x h l widths e = ap (λ (s : RowSeen). length s.numbers)
     (seen_get rows i x (omega (arith, h, l)) e) ∙ widths i l
 
@@ -54,7 +54,7 @@ module _ (rows : List TableRow) (i : ℕ) (new : TableRow) (lt : i < length rows
   other k n = at-set_other seen_of no_row rows i k new n
 
   -- all have their widths
-  pub widths_set : (m : ℕ) → HaveWidths m (seen_at rows) → length new.row.numbers.items ≡ suc m →
+  pub widths_set : (m : ℕ) → HaveWidths m (seen_at rows) → length new.row.numbers.items ≡ suc (multipliers m) →
       HaveWidths m (seen_at (set rows i new))
   widths_set m h e k l = elim (ℕ_discrete k i) [
     | yes p ↦ ap (λ (s : RowSeen). length s.numbers) (ap (seen_at (set rows i new)) p ∙ own) ∙ e
@@ -99,7 +99,7 @@ module _ (rows : List TableRow) (i : ℕ) (new : TableRow) (lt : i < length rows
 
 -- where a row is put, all have their widths
 pub widths_put : {s t : ℕ → RowSeen} {i : ℕ} {numbers : List ℤ} {under : ℤ} {fits : Bool} (m : ℕ) →
-    IsPut s i numbers under fits t → length numbers ≡ suc m → HaveWidths m s → HaveWidths m t
+    IsPut s i numbers under fits t → length numbers ≡ suc (multipliers m) → HaveWidths m s → HaveWidths m t
 widths_put {t = t} {i = i} m p e h k l = elim (ℕ_discrete k i) [
   | yes q ↦ ap (λ n. length (t n).numbers) q ∙ ap (λ (xs : List ℤ). length xs) p.own_numbers ∙ e
   | no n ↦ ap (λ (s : RowSeen). length s.numbers) (p.other k n) ∙ h k l

@@ -15,7 +15,7 @@ use Rattle.stack_table.specs.Spots.{reduced, reduce_item, reduce_spot}
 use Rattle.stack_inverse.specs.declared.columns.FirstColumn.{FirstColumn}
 use Rattle.stack_rows.specs.RowForm.{IsTaken}
 use Rattle.stack_inverse.specs.RowBlock.{AllNumbersFit, IsReducedRow}
-use Rattle.stack_inverse.specs.Columns.{number_with, cell_with, row_cell}
+use Rattle.stack_inverse.specs.Columns.{number_with, cell_with}
 use Rattle.stack_rows.proofs.OverOneDenominator.{over_fits, within_multiple}
 use Rattle.stack_inverse.proofs.Steps.{taken_own}
 
@@ -66,20 +66,20 @@ item_fits m f g k i j h = answer_fits m Difference (f j) (mul k (g j))
         (or_none (only_if (is_too_wide m Product k (g j)) (record { row = i; column = j; step = Multiply }))
         (only_if (is_too_wide m Difference (f j) (mul k (g j))) (record { row = i; column = j; step = Subtract })) h).1
 
-module _ (m : ℕ) (columns : List FirstColumn) (o : ℕ → ℤ) (row : List ℤ) (d : ℤ) (positive : pos 0 ≺ d) where
+module _ (m : ℕ) (columns : List FirstColumn) (row : List ℤ) (d : ℤ) (positive : pos 0 ≺ d) where
   -- the cell past the right side fits
   past_fits : nat_abs d ≤ nat_abs widest → (j : ℕ) → length columns + m < j →
-      fraction_fits widest (cell_with m columns o row d j) ≡ true
+      fraction_fits widest (cell_with m columns row d j) ≡ true
   past_fits within j l =
-      let nothing : number_with m columns o row d j ≡ pos 0 = grind (arith, nat_tests) in
-      over_fits widest (number_with m columns o row d j) d positive
+      let nothing : number_with m columns row j ≡ pos 0 = grind (arith, nat_tests) in
+      over_fits widest (number_with m columns row j) d positive
       (subst (λ z. nat_abs z ≤ nat_abs widest) (sym nothing) (omega arith)) within
 
   -- the cells of a row that is made where nothing is too wide
   by_cells_fit : nat_abs d ≤ nat_abs widest → (old g : ℕ → Fraction) (k : Fraction) (i : ℕ) →
-      ((j : ℕ) → cell_with m columns o row d j ≡ reduced ordered_fractions old g k j) →
+      ((j : ℕ) → cell_with m columns row d j ≡ reduced ordered_fractions old g k j) →
       reduce_spot ordered_fractions (is_too_wide widest) (suc (length columns + m)) old g k i ≡ None →
-      AllNumbersFit widest (cell_with m columns o row d)
+      AllNumbersFit widest (cell_with m columns row d)
   by_cells_fit within old g k i own_is none j = elim (dec_lt j (suc (length columns + m))) [
     | yes l ↦ ap (fraction_fits widest) (own_is j) ∙ item_fits widest old g k i j
         (first-none (suc (length columns + m)) _ none j l)
@@ -87,25 +87,25 @@ module _ (m : ℕ) (columns : List FirstColumn) (o : ℕ → ℤ) (row : List �
   ]
 
 -- a row that is reduced cell by cell
-module _ (m : ℕ) (columns : List FirstColumn) (o : ℕ → ℤ) (row : List ℤ) (d : ℤ) (positive : pos 0 ≺ d) where
+module _ (m : ℕ) (columns : List FirstColumn) (row : List ℤ) (d : ℤ) (positive : pos 0 ≺ d) where
   pub row_by_cells : (new pivot : List ℤ) (after e f : ℤ) (i column : ℕ) → pos 0 ≺ e → nat_abs after ≤ nat_abs widest →
-      f ≡ number_with m columns o row d column → IsTaken row (d *ℤ e) pivot e f new after →
-      reduce_spot ordered_fractions (is_too_wide widest) (suc (length columns + m)) (cell_with m columns o row d)
-      (row_cell m columns pivot e) (over f d) i ≡ None →
-      IsReducedRow widest (suc (length columns + m)) (cell_with m columns o row d) (row_cell m columns pivot e) i column
-      (cell_with m columns o new after)
+      f ≡ number_with m columns row column → IsTaken row (d *ℤ e) pivot e f new after →
+      reduce_spot ordered_fractions (is_too_wide widest) (suc (length columns + m)) (cell_with m columns row d)
+      (cell_with m columns pivot e) (over f d) i ≡ None →
+      IsReducedRow widest (suc (length columns + m)) (cell_with m columns row d) (cell_with m columns pivot e) i column
+      (cell_with m columns new after)
   row_by_cells new pivot after e f i column he fits hf x none = record {
     own = own_is;
-    fits = by_cells_fit m columns o new after x.positive fits (cell_with m columns o row d)
-        (row_cell m columns pivot e) (cell_with m columns o row d column) i own_is none_is;
+    fits = by_cells_fit m columns new after x.positive fits (cell_with m columns row d)
+        (cell_with m columns pivot e) (cell_with m columns row d column) i own_is none_is;
     none = none_is;
   }
     where
-      own_is : (j : ℕ) → cell_with m columns o new after j ≡ reduced ordered_fractions (cell_with m columns o row d)
-          (row_cell m columns pivot e) (cell_with m columns o row d column) j
-      own_is = taken_own m columns o row d positive new pivot after e e f f column he he hf refl x
+      own_is : (j : ℕ) → cell_with m columns new after j ≡ reduced ordered_fractions (cell_with m columns row d)
+          (cell_with m columns pivot e) (cell_with m columns row d column) j
+      own_is = taken_own m columns row d positive new pivot after e e f f column he he hf refl x
 
       none_is : reduce_spot ordered_fractions (is_too_wide widest) (suc (length columns + m))
-          (cell_with m columns o row d) (row_cell m columns pivot e) (cell_with m columns o row d column) i ≡ None
+          (cell_with m columns row d) (cell_with m columns pivot e) (cell_with m columns row d column) i ≡ None
       none_is = sym (λ z. reduce_spot ordered_fractions (is_too_wide widest) (suc (length columns + m))
-          (cell_with m columns o row d) (row_cell m columns pivot e) (over (hf z) d) i) ∙ none
+          (cell_with m columns row d) (cell_with m columns pivot e) (over (hf z) d) i) ∙ none

@@ -1,10 +1,9 @@
 -- A sum of products with words, made without a test whether it fits on the way.
 use Rattle.std.proofs.Common.{◌≡◌, refl, sym, ap, subst, ◌∙◌, ℕ, suc, ◌+◌, ◌-◌, ◌*◌, ◌^◌, ◌<◌, ◌≤◌, cond, ltb}
 use Rattle.std.proofs.Common.{List, [], ◌∷◌, length, get_or, drop, arith, mul-le-mul, ℤ, pos, nat_abs, ◌+ℤ◌, ◌*ℤ◌}
-use Rattle.std.proofs.Common.{SFits, Option, None, Some, IfSome}
+use Rattle.std.proofs.Common.{SFits, Option, Some, None, IfSome, OnSome}
 use Rattle.std.specs.Int.{w128, int_wrap}
 use Rattle.std.specs.List.{AllByRecursion}
-use Rattle.std.specs.Option.{SomeIff}
 use Rattle.std.proofs.lemmas.Bool.Decides.{nat_tests}
 use Rattle.std.proofs.lemmas.Int.{int_wrap_fits, int_wrap-add_left, fits_signed_from_abs}
 use Rattle.std.proofs.lemmas.List.{at_drop_all}
@@ -12,7 +11,7 @@ use Rattle.stack_rational.proofs.Common.{ints, sum_of}
 use Rattle.stack_inverse.specs.declared.columns.Cell.{Cell}
 use Rattle.stack_inverse.specs.declared.columns.FirstColumn.{FirstColumn}
 use Rattle.stack_rows.specs.RowForm.{number_at, IsTopped}
-use Rattle.stack_inverse.specs.Columns.{combined, entry_of, sizes, cells_at, AreFirst}
+use Rattle.stack_inverse.specs.Columns.{multipliers, combined, entry_of, sizes, cells_at, AreFirst}
 use Rattle.stack_inverse.proofs.Entered.{Rises, rises_of, over_entries}
 use Rattle.stack_inverse.proofs.Linear.{combined_within}
 use Rattle.stack_inverse.proofs.Made.{one_more}
@@ -67,6 +66,12 @@ module _ (row : List ℤ) where
         size,
       )))
 
+-- what follows from two clauses
+pub if_both : {P : Type 0} (r : Option ℤ) (x y : ℤ) → IfSome r (λ z. z ≡ x) → OnSome r P → (P → x ≡ y) →
+    IfSome r (λ z. z ≡ y)
+if_both None x y h p f = tt
+if_both (Some z) x y h p f = h ∙ f p
+
 -- so it is the sum itself, over the cells of a column that are lent
 pub narrow_sum : (m column_top : ℕ) (columns : List FirstColumn) → AreFirst m (length columns) columns column_top →
     column_top ≤ 2 ^ 62 → (row : List ℤ) (top : ℕ) → IsTopped row top → top ≤ 2 ^ 63 - 1 →
@@ -75,11 +80,7 @@ pub narrow_sum : (m column_top : ℕ) (columns : List FirstColumn) → AreFirst 
     int_wrap w128 (sum_of (λ x. number_at row x.row *ℤ x.value) cells)
     ≡ sum_of (λ x. number_at row x.row *ℤ x.value) cells
 narrow_sum m column_top columns first narrow row top topped words j l cells is below =
-    let at = subst (λ cs. Rises m 0 cs) (sym is) (rises_of m 0 (cells_at columns j) (first.rising j l)) in
-    let within = subst (λ cs. sizes m (entry_of cs) ≤ column_top) (sym is) (first.within j l) in
-    unwrapped row m top column_top cells at topped below within words narrow
-
--- what is added where it fits
-pub added_is : (r : Option ℤ) (P : Type 0) (v n : ℤ) → SomeIff r P v → v ≡ n → IfSome r (λ x. x ≡ n)
-added_is None P v n h e = tt
-added_is (Some x) P v n h e = h.1 ∙ e
+    let M = multipliers m in
+    let at = subst (λ cs. Rises M 0 cs) (sym is) (rises_of M 0 (cells_at columns j) (first.rising j l)) in
+    let within = subst (λ cs. sizes M (entry_of cs) ≤ column_top) (sym is) (first.within j l) in
+    unwrapped row M top column_top cells at topped below within words narrow

@@ -7,7 +7,7 @@ use Rattle.stack_algebra.specs.Search.{least}
 use Rattle.stack_bland.specs.Choice.{is_negative_sign}
 use Rattle.stack_inverse.specs.declared.columns.FirstColumn.{FirstColumn}
 use Rattle.stack_inverse.specs.declared.marks.Marks.{Marks}
-use Rattle.stack_inverse.specs.Columns.{RowSeen, cells_at}
+use Rattle.stack_inverse.specs.Columns.{RowSeen, multipliers, cells_at}
 use Rattle.stack_rows.specs.RowForm.{number_at}
 
 -- the mark of place j, which is 0 past the last word
@@ -31,9 +31,9 @@ abbrev pub AreUses : List Marks → List FirstColumn → Type 0
 AreUses uses columns = (j : ℕ) → j < length columns →
     AllByRecursion (λ x. mark_at uses x.row j ≢ 0) (cells_at columns j)
 
--- a row is marked in the list of an artificial column in which it has something
+-- a row is marked in the list of each of its multipliers that isn't 0
 abbrev pub ArePlaces : List Marks → (rows : ℕ) → (ℕ → RowSeen) → Type 0
-ArePlaces places rows s = (i r : ℕ) → i < rows → r < rows → mark_at places r i ≡ 0 →
+ArePlaces places rows s = (i r : ℕ) → i < rows → r < multipliers rows → mark_at places r i ≡ 0 →
     number_at (s i).numbers r ≡ pos 0
 
 -- among n columns those without a mark have no negative number

@@ -1,23 +1,23 @@
 -- Rows of a table: tops of their numbers, and what a pivot makes of them.
-use Rattle.std.specs.Prelude.{◌≡◌, ℕ, ◌+◌, ◌*◌, ◌<◌, ◌≤◌, true, None, List, ℤ, unsigned_abs}
+use Rattle.std.specs.Prelude.{◌≡◌, ℕ, ◌*◌, ◌<◌, ◌≤◌, true, None, List, ℤ, pos, unsigned_abs}
 use Rattle.stack_algebra.specs.Fraction.{Fraction}
 use Rattle.stack_algebra.specs.Rows.{next}
 use Rattle.stack_algebra.proofs.OrderedFractions.{ordered_fractions}
 use Rattle.stack_rational.specs.TooWide.{fraction_fits, is_too_wide}
 use Rattle.stack_table.specs.Spots.{divided, reduced, divide_item, reduce_spot, cells_spot}
 use Rattle.stack_rows.specs.RowForm.{number_at, StepFits}
-use Rattle.stack_inverse.specs.Columns.{RowSeen}
+use Rattle.stack_inverse.specs.Columns.{RowSeen, multipliers}
 
 -- no number is greater than b in size
 abbrev pub AreWithin : (ℕ → ℤ) → ℕ → Type 0
 AreWithin f b = (j : ℕ) → unsigned_abs (f j) ≤ b
 
--- a top of all numbers of a row over d, by those of its artificial numbers, of the columns and of own cells
-pub record IsWholeTop (m : ℕ) (row : List ℤ) (d : ℤ) (column_top own_top b : ℕ) : Type 0 where
+-- a top of all numbers of a row, by those of its multipliers and of the columns
+pub record IsWholeTop (m : ℕ) (row : List ℤ) (column_top b : ℕ) : Type 0 where
   pub top : ℕ
-  pub each : (r : ℕ) → r < m → unsigned_abs (number_at row r) ≤ top
-  pub right : unsigned_abs (number_at row m) ≤ b
-  pub sum : top * column_top + unsigned_abs d * own_top ≤ b
+  pub each : (r : ℕ) → r < multipliers m → unsigned_abs (number_at row r) ≤ top
+  pub right : unsigned_abs (number_at row (multipliers m)) ≤ b
+  pub product : top * column_top ≤ b
 
 -- cells fit
 abbrev pub AllNumbersFit : ℤ → (ℕ → Fraction) → Type 0
@@ -28,11 +28,16 @@ abbrev pub AreFitting : ℤ → (ℕ → ℕ → Fraction) → (ℕ → RowSeen)
 AreFitting m cell s = (i : ℕ) → (s i).fits ≡ true → AllNumbersFit m (cell i)
 
 -- the numbers of a row over d fit m after a step, by a top of all its numbers and one of the pivot row's
-pub record FitsByTop (m : ℤ) (rows : ℕ) (row : List ℤ) (d : ℤ) (column_top own_top : ℕ) (k t : ℤ) (p : ℕ) : Type 0
-  where
-    pub whole_top : ℕ
-    pub is_whole_top : IsWholeTop rows row d column_top own_top whole_top
-    pub fitting : StepFits m d k t whole_top p
+pub record FitsByTop (m : ℤ) (rows : ℕ) (row : List ℤ) (d : ℤ) (column_top : ℕ) (k t : ℤ) (p : ℕ) : Type 0 where
+  pub whole_top : ℕ
+  pub is_whole_top : IsWholeTop rows row column_top whole_top
+  pub fitting : StepFits m d k t whole_top p
+
+-- what is 0 in a row and in the pivot row stays 0; so does all that is 0 in the row, if its number in the pivot's
+-- column, f, is 0
+pub record KeepsZeros (old pivot : List ℤ) (f : ℤ) (new : List ℤ) : Type 0 where
+  pub both : (q : ℕ) → number_at old q ≡ pos 0 → number_at pivot q ≡ pos 0 → number_at new q ≡ pos 0
+  pub bare : f ≡ pos 0 → (q : ℕ) → number_at old q ≡ pos 0 → number_at new q ≡ pos 0
 
 -- row i is reduced by the row g, its cells fit and nothing that is written is too wide
 pub record IsReducedRow (m : ℤ) (width : ℕ) (old g : ℕ → Fraction) (i column : ℕ) (new : ℕ → Fraction) : Type 0 where

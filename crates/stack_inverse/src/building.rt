@@ -1,18 +1,16 @@
-//! The first rows of a problem: their columns, their sizes and their objective coefficients in phase 1.
+//! The first rows of a problem: their columns, with the costs below them, and their sizes.
 
-ghost use Rattle.std.specs.Prelude.{◌≡◌, ℕ, ◌<◌, ◌≤◌, map, length, get_or, [], unsigned_abs, IfOk, IfSome};
+ghost use Rattle.std.specs.Prelude.{◌≡◌, ℕ, ◌<◌, ◌≤◌, map, length, get_or, [], true, false, IfOk, IfSome};
 ghost use Rattle.std.specs.List.{AllByRecursion};
 ghost use Rattle.stack_table.specs.Table.{plain};
 ghost use Rattle.stack_table.specs.Problem.{turned};
 ghost use Rattle.stack_table.specs.Lent.{IsProblem, shape_of_problem};
-ghost use Rattle.stack_rows.specs.RowForm.{number_at};
 ghost use Rattle.stack_inverse.specs.Columns.{cells_at};
-ghost use Rattle.stack_inverse.specs.FirstTable.{flips, AreTurned, AreFirstColumns, sizes_in, less_cells};
+ghost use Rattle.stack_inverse.specs.FirstTable.{flips, AreTurned, HasCosts, AreFirstColumns, sizes_in, less_cells};
 
 use crate::columns::{Cell, FirstColumn};
-use crate::first::First;
-use crate::given::Given;
-use crate::making::{larger, top_of};
+use crate::first::{COSTS, First};
+use crate::making::larger;
 use crate::stops::NoTable;
 use num_traits::{CheckedAdd, CheckedNeg, CheckedSub};
 use stack_rows::word;
@@ -49,7 +47,7 @@ pub fn cells_of(alloc: Global, entries: &[Entry], right: &[i128]) -> Result<Vec<
     requires { AllByRecursion (λ x. x.row < length right.now) entries.now }
     ensures { IfOk result (λ cells. AreTurned right.now entries.now cells.items) }
 {
-    let mut cells = Vec::with_capacity(alloc, entries.len())?;
+    let mut cells = Vec::with_capacity(alloc, entries.len() + COSTS)?;
     for entry in entries {
         let cell = match cell_of_entry(right, *entry) {
             Some(cell) => cell,
@@ -60,16 +58,58 @@ pub fn cells_of(alloc: Global, entries: &[Entry], right: &[i128]) -> Result<Vec<
     Ok(cells)
 }
 
+/// Minus the sum of the values of cells.
+fn first_cost(cells: &[Cell]) -> Option<i64>
+    ensures { IfSome result (λ r. r ≡ less_cells cells.now) }
+{
+    let mut rest: i128 = 0;
+    for cell in cells {
+        rest = CheckedSub::checked_sub(&rest, &(cell.value as i128))?;
+    }
+    word(rest)
+}
+
+/// The cells of a column, and below them its cost in phase 1: minus the sum of its values.
+fn with_cost(alloc: Global, entries: &[Entry], right: &[i128]) -> Result<Vec<Cell>, NoTable>
+    requires { AllByRecursion (λ x. x.row < length right.now) entries.now }
+    ensures { IfOk result (λ cells. HasCosts (length right.now) right.now false entries.now cells.items) }
+{
+    let mut cells = cells_of(alloc, entries, right)?;
+    let value = match first_cost(cells.as_slice()) {
+        Some(value) => value,
+        None => return Err(NoTable::Unsettled),
+    };
+    cells.push(Cell {
+        row: right.len(),
+        value,
+    })?;
+    Ok(cells)
+}
+
+/// The same, and below that its cost in phase 3: -1.
+fn factor_cells(alloc: Global, entries: &[Entry], right: &[i128]) -> Result<Vec<Cell>, NoTable>
+    requires { AllByRecursion (λ x. x.row < length right.now) entries.now }
+    ensures { IfOk result (λ cells. HasCosts (length right.now) right.now true entries.now cells.items) }
+{
+    let mut cells = with_cost(alloc, entries, right)?;
+    cells.push(Cell {
+        row: right.len() + 1,
+        value: -1,
+    })?;
+    Ok(cells)
+}
+
 /// The contact columns, with room for one more.
 fn contact_columns(alloc: Global, p: &Problem) -> Result<Vec<FirstColumn>, NoTable>
     requires { IsProblem p.now }
     ensures long { IfOk result (λ c. length c.items ≡ length p.now.contact.items) }
-    ensures turned { IfOk result (λ c. (j : ℕ) → j < length p.now.contact.items → AreTurned
-        p.now.right.items (get_or (map (λ c. c.entries.items) p.now.contact.items) j []) (cells_at c.items j)) }
+    ensures costs { IfOk result (λ c. (j : ℕ) → j < length p.now.contact.items → HasCosts (length p.now.right.items)
+        p.now.right.items false (get_or (map (λ c. c.entries.items) p.now.contact.items) j [])
+        (cells_at c.items j)) }
 {
     let mut columns = Vec::with_capacity(alloc, p.contact.len() + 1)?;
     for j in 0..p.contact.len() {
-        let cells = cells_of(alloc, p.contact[j].entries.as_slice(), p.right.as_slice())?;
+        let cells = with_cost(alloc, p.contact[j].entries.as_slice(), p.right.as_slice())?;
         columns.push(FirstColumn { cells })?;
     }
     Ok(columns)
@@ -79,12 +119,12 @@ fn contact_columns(alloc: Global, p: &Problem) -> Result<Vec<FirstColumn>, NoTab
 pub fn plain_columns(alloc: Global, p: &Problem) -> Result<Vec<FirstColumn>, NoTable>
     requires { IsProblem p.now }
     ensures long { IfOk result (λ c. length c.items ≡ plain (shape_of_problem p.now)) }
-    ensures turned { IfOk result (λ c. AreFirstColumns p.now c.items) }
+    ensures columns { IfOk result (λ c. AreFirstColumns p.now c.items) }
 {
     let mut columns = contact_columns(alloc, p)?;
     match &p.factor {
         Some(factor) => {
-            let cells = cells_of(alloc, factor.entries.as_slice(), p.right.as_slice())?;
+            let cells = factor_cells(alloc, factor.entries.as_slice(), p.right.as_slice())?;
             columns.push(FirstColumn { cells })?;
             Ok(columns)
         }
@@ -115,40 +155,12 @@ pub fn column_top(columns: &[FirstColumn]) -> Option<u128>
     Some(top)
 }
 
-/// Minus the sum of the values of cells.
-fn less_cells(cells: &[Cell]) -> Option<i128>
-    ensures { IfSome result (λ r. r ≡ less_cells cells.now) }
-{
-    let mut rest: i128 = 0;
-    for cell in cells {
-        rest = CheckedSub::checked_sub(&rest, &(cell.value as i128))?;
-    }
-    Some(rest)
-}
-
-/// For each column minus the sum of its values: the own cells of the objective row of phase 1.
-pub fn own_cells(alloc: Global, columns: &[FirstColumn]) -> Result<Vec<i128>, NoTable>
-    ensures long { IfOk result (λ own. length own.items ≡ length columns.now) }
-    ensures cells { IfOk result (λ own. (j : ℕ) → j < length columns.now →
-        number_at own.items j ≡ less_cells (cells_at columns.now j)) }
-{
-    let mut own = Vec::with_capacity(alloc, columns.len())?;
-    for j in 0..columns.len() {
-        let cell = match less_cells(columns[j].cells.as_slice()) {
-            Some(cell) => cell,
-            None => return Err(NoTable::Unsettled),
-        };
-        own.push(cell)?;
-    }
-    Ok(own)
-}
-
 /// The first rows of a problem.
 pub fn first_of(alloc: Global, p: &Problem) -> Result<First, NoTable>
     requires { IsProblem p.now }
     ensures rows { IfOk result (λ f. f.rows ≡ p.now.rows) }
     ensures long { IfOk result (λ f. length f.columns.items ≡ plain (shape_of_problem p.now)) }
-    ensures turned { IfOk result (λ f. AreFirstColumns p.now f.columns.items) }
+    ensures columns { IfOk result (λ f. AreFirstColumns p.now f.columns.items) }
 {
     let columns = plain_columns(alloc, p)?;
     let top = match column_top(columns.as_slice()) {
@@ -159,24 +171,5 @@ pub fn first_of(alloc: Global, p: &Problem) -> Result<First, NoTable>
         columns,
         top,
         rows: p.rows,
-    })
-}
-
-/// The first rows of a problem, and the own cells of the objective row of phase 1.
-pub fn given_of(alloc: Global, p: &Problem) -> Result<Given, NoTable>
-    requires { IsProblem p.now }
-    ensures rows { IfOk result (λ g. g.first.rows ≡ p.now.rows) }
-    ensures long { IfOk result (λ g. length g.first.columns.items ≡ plain (shape_of_problem p.now)) }
-    ensures turned { IfOk result (λ g. AreFirstColumns p.now g.first.columns.items) }
-    ensures cells { IfOk result (λ g. (j : ℕ) → j < length g.first.columns.items →
-        number_at g.own.items j ≡ less_cells (cells_at g.first.columns.items j)) }
-{
-    let first = first_of(alloc, p)?;
-    let own = own_cells(alloc, first.columns.as_slice())?;
-    let own_top = top_of(own.as_slice());
-    Ok(Given {
-        first,
-        own,
-        own_top,
     })
 }

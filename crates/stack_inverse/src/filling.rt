@@ -3,11 +3,12 @@
 ghost use Rattle.std.specs.Prelude.{◌≡◌, ℕ, suc, ◌+◌, ◌<◌, ◌^◌, length, get_or, pos, eqb, cond, false};
 ghost use Rattle.std.specs.Prelude.{OnSome, IfSome, IfOk, OnOk};
 ghost use Rattle.stack_rows.specs.RowForm.{number_at};
-ghost use Rattle.stack_inverse.specs.Columns.{HaveWidths, IsPut};
+ghost use Rattle.stack_inverse.specs.Columns.{multipliers, HaveWidths, IsPut};
 ghost use Rattle.stack_inverse.specs.RowsSeen.{seen_at};
 ghost use Rattle.stack_inverse.specs.FirstTable.{load_at, IsFirstRow, less_loads, AreFilled};
 
 use crate::building::turned;
+use crate::first::COSTS;
 use crate::objective::set_only;
 use crate::pivoting::put_row;
 use crate::row::TableRow;
@@ -24,24 +25,24 @@ fn put_first_row(
     i: usize,
 ) -> Option<i128>
     requires row_in { i < length right.now }
-    requires width { length numbers.old ≡ suc (length right.now) }
+    requires width { length numbers.old ≡ suc (multipliers (length right.now)) }
     requires height { length rows.old ≡ suc (length right.now) }
     requires widths { HaveWidths (length right.now) (seen_at rows.old) }
     ensures load { IfSome result (λ s. s ≡ load_at right.now i) }
     ensures put { OnSome result (IsPut (seen_at rows.old) i numbers.new (pos 1) false (seen_at rows.new)) }
     ensures row { OnSome result ((j : ℕ) → number_at numbers.new j
-        ≡ cond (eqb j (length right.now)) (load_at right.now i) (cond (eqb j i) (pos 1) (pos 0))) }
+        ≡ cond (eqb j (multipliers (length right.now))) (load_at right.now i) (cond (eqb j i) (pos 1) (pos 0))) }
 {
     let load = turned(right, i, right[i])?;
     set_only(numbers, i, 1);
-    numbers[right.len()] = load;
+    numbers[right.len() + COSTS] = load;
     put_row(rows, i, numbers, 1);
     Some(load)
 }
 
 /// Puts the first rows, each over 1. Gives minus the sum of their right sides.
 fn put_first_rows(rows: &mut [TableRow], numbers: &mut [i128], right: &[i128]) -> Option<i128>
-    requires width { length numbers.old ≡ suc (length right.now) }
+    requires width { length numbers.old ≡ suc (multipliers (length right.now)) }
     requires height { length rows.old ≡ suc (length right.now) }
     requires widths { HaveWidths (length right.now) (seen_at rows.old) }
     requires unfit { (i : ℕ) → (seen_at rows.old i).fits ≡ false }
@@ -60,7 +61,7 @@ fn put_first_rows(rows: &mut [TableRow], numbers: &mut [i128], right: &[i128]) -
 
 /// Puts the first rows and the objective row of phase 1. Likely gives up if the sum of the right sides doesn't fit.
 pub fn fill(rows: &mut [TableRow], numbers: &mut [i128], right: &[i128]) -> Result<(), NoTable>
-    requires width { length numbers.old ≡ suc (length right.now) }
+    requires width { length numbers.old ≡ suc (multipliers (length right.now)) }
     requires height { length rows.old ≡ suc (length right.now) }
     requires widths { HaveWidths (length right.now) (seen_at rows.old) }
     requires unfit { (i : ℕ) → (seen_at rows.old i).fits ≡ false }
@@ -72,7 +73,8 @@ pub fn fill(rows: &mut [TableRow], numbers: &mut [i128], right: &[i128]) -> Resu
         Some(rest) => rest,
         None => return Err(NoTable::Unsettled),
     };
-    set_only(numbers, right.len(), rest);
+    set_only(numbers, right.len(), 1);
+    numbers[right.len() + COSTS] = rest;
     put_row(rows, right.len(), numbers, 1);
     Ok(())
 }
@@ -85,14 +87,14 @@ pub fn zeros(alloc: Global, count: usize) -> Result<Vec<i128>, NoTable>
     Ok(list)
 }
 
-/// `width` rows of `width` zeros, none known to fit.
-pub fn rows_of(alloc: Global, width: u16) -> Result<Vec<TableRow>, NoTable>
-    ensures height { IfOk result (λ r. length r.items ≡ width) }
-    ensures widths { IfOk result (λ r. (i : ℕ) → i < width → length (seen_at r.items i).numbers ≡ width) }
-    ensures unfit { IfOk result (λ r. (i : ℕ) → i < width → (seen_at r.items i).fits ≡ false) }
+/// Rows of `width` zeros, none known to fit.
+pub fn rows_of(alloc: Global, count: usize, width: u16) -> Result<Vec<TableRow>, NoTable>
+    ensures height { IfOk result (λ r. length r.items ≡ count) }
+    ensures widths { IfOk result (λ r. (i : ℕ) → i < count → length (seen_at r.items i).numbers ≡ width) }
+    ensures unfit { IfOk result (λ r. (i : ℕ) → i < count → (seen_at r.items i).fits ≡ false) }
 {
-    let mut rows = Vec::with_capacity(alloc, usize::from(width))?;
-    for _ in 0..width {
+    let mut rows = Vec::with_capacity(alloc, count)?;
+    for _ in 0..count {
         let row = Row::zeros(alloc, width)?;
         rows.push(TableRow { row, fits: false })?;
     }

@@ -1,11 +1,14 @@
-//! The first rows, and a top of their columns.
+//! The first rows with the rows of costs below them, and a top of their columns.
 
 ghost use Rattle.std.specs.Prelude.{length};
 ghost use Rattle.stack_inverse.specs.Columns.{AreFirst};
 
 use crate::columns::FirstColumn;
 
-/// The first rows in the plain columns.
+/// How many rows of costs stand below the first rows: the objective of phase 1, and that of phase 3.
+pub const COSTS: usize = 2;
+
+/// The first rows in the plain columns, and below them the rows of costs.
 #[derive(Drop)]
 pub struct First {
     pub columns: Vec<FirstColumn>,

@@ -1,8 +1,9 @@
 //! The table of a revised run: the inverse of its basis in whole numbers, from which the plain columns are made.
 //!
-//! Each row of the table is kept as whole numbers over one denominator: one for each artificial column, which make the
-//! inverse of the basis, and the right side. A number of a plain column is made from these and the first rows when it
-//! is needed. After the revised simplex method of Dantzig and Orchard-Hays (1954).
+//! Each row of the table is kept as whole numbers over one denominator: its multipliers and the right side. The
+//! multipliers of the first rows are its numbers in the artificial columns, and make the inverse of the basis; two more
+//! are those of the rows of costs, which stand below the first rows. A number of a plain column is made from these when
+//! it is needed. After the revised simplex method of Dantzig and Orchard-Hays (1954).
 //!
 //! A call may give up, with None or `Unsettled`. No clause says when, but each call says when that is likely. It says
 //! nothing about the written run. All other answers are exact.
@@ -19,7 +20,6 @@ mod building;
 mod columns;
 mod filling;
 mod first;
-mod given;
 mod making;
 mod marks;
 mod objective;

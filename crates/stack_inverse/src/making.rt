@@ -1,25 +1,24 @@
-//! Numbers of the plain columns, made from those of the artificial ones, and their top.
+//! Numbers of the plain columns, made from a row's multipliers, and their top.
 
 ghost use Rattle.std.specs.Prelude.{◌≡◌, ◌≢◌, ℕ, suc, ◌+◌, ◌-◌, ◌^◌, ◌<◌, ◌≤◌, ◌+ℤ◌, ◌*ℤ◌, length};
-ghost use Rattle.std.specs.Prelude.{unsigned_abs, ◌/◌, ℤ, pos, OnSome, IfSome};
+ghost use Rattle.std.specs.Prelude.{unsigned_abs, ◌/◌, pos, OnSome, IfSome};
 ghost use Rattle.std.specs.Int.{w128, int_wrap};
 ghost use Rattle.std.specs.List.{AllByRecursion};
 ghost use Rattle.stack_rational.specs.Laws.{widest};
 ghost use Rattle.stack_algebra.specs.Sums.{sum_of};
 ghost use Rattle.stack_rows.specs.RowForm.{number_at, IsTopped};
 ghost use Rattle.stack_inverse.specs.RowBlock.{AreWithin, IsWholeTop};
-ghost use Rattle.stack_inverse.specs.Columns.{revised_own, row_number, cells_at, HaveWidths, AreEntered};
+ghost use Rattle.stack_inverse.specs.Columns.{multipliers, number_with, cells_at, HaveWidths, AreEntered};
 ghost use Rattle.stack_inverse.specs.RowsSeen.{seen_of, seen_at, number_in_row};
 ghost use Rattle.stack_inverse.specs.Marks.{mark_in};
 
 use crate::columns::Cell;
-use crate::first::First;
-use crate::given::Given;
+use crate::first::{COSTS, First};
 use crate::marks::Marks;
 use crate::objective::clear_row;
 use crate::row::TableRow;
 use num_traits::CheckedAdd;
-use stack_rows::{SMALL, product, product_of, size_product, whole_product};
+use stack_rows::{SMALL, product, product_of, size_product};
 
 /// A sum plus the product of a number and a word.
 fn added(sum: i128, number: i128, by: i64) -> Option<i128>
@@ -36,11 +35,11 @@ fn product_of_word(number: i128, by: i64) -> i128
     product_of(number as i64, by)
 }
 
-/// A number plus the products of a row with the numbers of a column.
-fn sum_over(cells: &[Cell], numbers: &[i128], start: i128) -> Option<i128>
-    ensures { IfSome result (λ r. r ≡ start +ℤ sum_of (λ x. number_at numbers.now x.row *ℤ x.value) cells.now) }
+/// The sum of the products of a row with the numbers of a column.
+fn sum_over(cells: &[Cell], numbers: &[i128]) -> Option<i128>
+    ensures { IfSome result (λ r. r ≡ sum_of (λ x. number_at numbers.now x.row *ℤ x.value) cells.now) }
 {
-    let mut sum = start;
+    let mut sum: i128 = 0;
     for cell in cells {
         if cell.row >= numbers.len() {
             return None;
@@ -69,46 +68,31 @@ fn sum_words(cells: &[Cell], numbers: &[i128]) -> Option<i128>
     Some(sum)
 }
 
-/// The own number of a row over its denominator: the objective row's, and 0 in the others.
-fn own_over(given: &Given, i: usize, j: usize, under: i128) -> Option<i128>
-    requires { j < length given.now.own.items }
-    ensures { IfSome result (λ r. r ≡ under *ℤ revised_own given.now.first.rows given.now.own.items i j) }
+/// The number of a row in a plain column, over its denominator. Likely gives up if a sum of products doesn't fit.
+pub fn number_of(first: &First, row: &TableRow, j: usize) -> Option<i128>
+    requires { j < length first.now.columns.items }
+    ensures { IfSome result (λ r. r ≡ number_in_row first.now (seen_of row.now) j) }
 {
-    if i != given.first.rows {
-        return Some(0);
-    }
-    if given.own[j] == 0 {
-        return Some(0);
-    }
-    whole_product(under, given.own[j])
-}
-
-/// The number of row i in a plain column, over its denominator. Likely gives up if a sum of products doesn't fit.
-pub fn number_of(given: &Given, row: &TableRow, i: usize, j: usize) -> Option<i128>
-    requires { j < length given.now.first.columns.items }
-    ensures { IfSome result (λ r. r ≡ number_in_row given.now (seen_of row.now) i j) }
-{
-    let own = own_over(given, i, j, row.row.under)?;
-    let cells = given.first.columns[j].cells.as_slice();
+    let cells = first.columns[j].cells.as_slice();
     let numbers = row.row.numbers.as_slice();
-    if row.row.top <= i64::MAX as u128 && given.first.top <= SMALL {
-        CheckedAdd::checked_add(&own, &sum_words(cells, numbers)?)
+    if row.row.top <= i64::MAX as u128 && first.top <= SMALL {
+        sum_words(cells, numbers)
     } else {
-        sum_over(cells, numbers, own)
+        sum_over(cells, numbers)
     }
 }
 
 /// The same. Also gives up if it or the right side of the row is the least number of all, whose size doesn't fit.
-fn sized_number(given: &Given, row: &TableRow, i: usize, j: usize) -> Option<i128>
-    requires column_in { j < length given.now.first.columns.items }
-    requires width { length row.now.row.numbers.items ≡ suc given.now.first.rows }
-    ensures number { IfSome result (λ r. r ≡ number_in_row given.now (seen_of row.now) i j) }
+fn sized_number(first: &First, row: &TableRow, j: usize) -> Option<i128>
+    requires column_in { j < length first.now.columns.items }
+    requires width { length row.now.row.numbers.items ≡ suc (multipliers first.now.rows) }
+    ensures number { IfSome result (λ r. r ≡ number_in_row first.now (seen_of row.now) j) }
     ensures fit { IfSome result (λ r. unsigned_abs r ≤ unsigned_abs widest) }
-    ensures right_fits { OnSome result (unsigned_abs (number_at row.now.row.numbers.items given.now.first.rows)
-        ≤ unsigned_abs widest) }
+    ensures right_fits { OnSome result (unsigned_abs (number_at row.now.row.numbers.items
+        (multipliers first.now.rows)) ≤ unsigned_abs widest) }
 {
-    let number = number_of(given, row, i, j)?;
-    let right = row.row.numbers[given.first.rows];
+    let number = number_of(first, row, j)?;
+    let right = row.row.numbers[first.rows + COSTS];
     if number == i128::MIN || right == i128::MIN {
         return None;
     }
@@ -119,34 +103,34 @@ fn sized_number(given: &Given, row: &TableRow, i: usize, j: usize) -> Option<i12
 /// the column's rows, and afterwards of those whose number isn't 0. Likely gives up if a sum of products doesn't
 /// fit.
 pub fn enter_column(
-    given: &Given,
+    first: &First,
     rows: &[TableRow],
     marks: &mut Marks,
     entered: &mut [i128],
     column: usize,
 ) -> Option<()>
-    requires long { length entered.old ≡ suc given.now.first.rows }
-    requires height { length rows.now ≡ suc given.now.first.rows }
-    requires widths { HaveWidths given.now.first.rows (seen_at rows.now) }
-    requires column_in { column < length given.now.first.columns.items }
-    requires marks_long { length marks.old.words.items ≡ suc (suc given.now.first.rows / 64) }
-    requires nothing { (i : ℕ) → i < given.now.first.rows → mark_in marks.old.words.items i ≡ 0 → AllByRecursion (λ x.
-        number_at (seen_at rows.now i).numbers x.row ≡ pos 0) (cells_at given.now.first.columns.items column) }
-    ensures numbers { OnSome result (AreEntered given.now.first.rows given.now.first.columns.items given.now.own.items
+    requires long { length entered.old ≡ suc (multipliers first.now.rows) }
+    requires height { length rows.now ≡ suc first.now.rows }
+    requires widths { HaveWidths first.now.rows (seen_at rows.now) }
+    requires column_in { column < length first.now.columns.items }
+    requires marks_long { length marks.old.words.items ≡ suc (suc first.now.rows / 64) }
+    requires nothing { (i : ℕ) → i < first.now.rows → mark_in marks.old.words.items i ≡ 0 → AllByRecursion (λ x.
+        number_at (seen_at rows.now i).numbers x.row ≡ pos 0) (cells_at first.now.columns.items column) }
+    ensures numbers { OnSome result (AreEntered first.now.rows first.now.columns.items
         (seen_at rows.now) column entered.new) }
-    ensures fit { OnSome result ((i : ℕ) → i ≤ given.now.first.rows →
+    ensures fit { OnSome result ((i : ℕ) → i ≤ first.now.rows →
         unsigned_abs (number_at entered.new i) ≤ unsigned_abs widest) }
-    ensures right_fits { OnSome result ((i : ℕ) → i ≤ given.now.first.rows → number_at entered.new i ≢ pos 0 →
-        unsigned_abs (number_at (seen_at rows.now i).numbers given.now.first.rows) ≤ unsigned_abs widest) }
-    ensures told { OnSome result ((i : ℕ) → i ≤ given.now.first.rows → mark_in marks.new.words.items i ≡ 0 →
+    ensures right_fits { OnSome result ((i : ℕ) → i ≤ first.now.rows → number_at entered.new i ≢ pos 0 →
+        unsigned_abs (number_at (seen_at rows.now i).numbers (multipliers first.now.rows)) ≤ unsigned_abs widest) }
+    ensures told { OnSome result ((i : ℕ) → i ≤ first.now.rows → mark_in marks.new.words.items i ≡ 0 →
         number_at entered.new i ≡ pos 0) }
     ensures marks_long { length marks.new.words.items ≡ length marks.old.words.items }
 {
     clear_row(entered);
-    marks.put(given.first.rows);
+    marks.put(first.rows);
     let mut i = marks.next(0, rows.len());
     while i < rows.len() {
-        let number = sized_number(given, &rows[i], i, column)?;
+        let number = sized_number(first, &rows[i], column)?;
         entered[i] = number;
         marks.note(i, number);
         i = marks.next(i + 1, rows.len());
@@ -174,43 +158,38 @@ pub fn larger(a: u128, b: u128) -> u128
     if a < b { b } else { a }
 }
 
-/// A top of all numbers of a row over this denominator, by that of its artificial numbers. Likely gives up if it
-/// doesn't fit.
-pub fn whole_top(
-    first: &First,
-    numbers: &[i128],
-    under: i128,
-    own_top: u128,
-    top: u128,
-) -> Option<u128>
-    requires width { length numbers.now ≡ suc first.now.rows }
+/// A top of all numbers of a row, by that of its multipliers. Likely gives up if it doesn't fit.
+pub fn whole_top(first: &First, numbers: &[i128], top: u128) -> Option<u128>
+    requires width { length numbers.now ≡ suc (multipliers first.now.rows) }
     requires topped { IsTopped numbers.now top }
-    ensures { IfSome result (λ b. IsWholeTop first.now.rows numbers.now under first.now.top own_top b) }
+    ensures { IfSome result (λ b. IsWholeTop first.now.rows numbers.now first.now.top b) }
 {
     let combined = size_product(top, first.top)?;
-    let own = size_product(under.unsigned_abs(), own_top)?;
-    let both = CheckedAdd::checked_add(&combined, &own)?;
-    Some(larger(both, numbers[first.rows].unsigned_abs()))
+    Some(larger(combined, numbers[first.rows + COSTS].unsigned_abs()))
 }
 
-/// The number of a row without own cells in any column, the right side last. Likely gives up if a sum of products
-/// doesn't fit.
+/// The number of a row in any column, the right side last. Likely gives up if a sum of products doesn't fit.
 pub fn row_number(first: &First, row: &[i128], j: usize) -> Option<i128>
-    requires width { length row.now ≡ suc first.now.rows }
+    requires width { length row.now ≡ suc (multipliers first.now.rows) }
     requires column_in { j < suc (length first.now.columns.items + first.now.rows) }
-    ensures { IfSome result (λ r. (d : ℤ) → r ≡ row_number first.now.rows first.now.columns.items row.now d j) }
+    ensures { IfSome result (λ r. r ≡ number_with first.now.rows first.now.columns.items row.now j) }
 {
     let plain = first.columns.len();
     if j < plain {
-        return sum_over(first.columns[j].cells.as_slice(), row, 0);
+        return sum_over(first.columns[j].cells.as_slice(), row);
     }
-    Some(row[j - plain])
+    if j - plain < first.rows {
+        Some(row[j - plain])
+    } else {
+        Some(row[first.rows + COSTS])
+    }
 }
 
-/// A top of all numbers of a row without own cells, by each of them. Likely gives up if one doesn't fit.
+/// A top of all numbers of a row, its multipliers too, by each of them. Likely gives up if one doesn't fit.
 pub fn top_in(first: &First, row: &[i128]) -> Option<u128>
-    requires { length row.now ≡ suc first.now.rows }
-    ensures { IfSome result (λ b. (d : ℤ) → AreWithin (row_number first.now.rows first.now.columns.items row.now d) b) }
+    requires { length row.now ≡ suc (multipliers first.now.rows) }
+    ensures made { IfSome result (λ b. AreWithin (number_with first.now.rows first.now.columns.items row.now) b) }
+    ensures kept { IfSome result (λ b. AreWithin (number_at row.now) b) }
 {
     let mut top = top_of(row);
     for j in 0..first.columns.len() {

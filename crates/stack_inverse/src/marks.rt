@@ -2,15 +2,14 @@
 
 ghost use Rattle.std.specs.Prelude.{◌≡◌, ◌≢◌, ℕ, suc, ◌<◌, ◌≤◌, ◌/◌, length, IfOk};
 ghost use Rattle.std.specs.List.{AllByRecursion};
-ghost use Rattle.stack_rows.specs.RowForm.{number_at};
+ghost use Rattle.stack_whole.specs.Limits.{most_rows};
 ghost use Rattle.stack_bland.specs.Found.{TellsFound, IfFound};
-ghost use Rattle.stack_inverse.specs.Columns.{cells_at};
+ghost use Rattle.stack_inverse.specs.Columns.{multipliers, cells_at};
 ghost use Rattle.stack_inverse.specs.RowsSeen.{seen_of, number_in_row};
 ghost use Rattle.stack_inverse.specs.Marks.{mark_in, list_at, mark_at, HaveWords, AreUses, AreClean, least_negative};
 
 use crate::columns::{Cell, FirstColumn};
-use crate::first::First;
-use crate::given::Given;
+use crate::first::{COSTS, First};
 use crate::making::number_of;
 use crate::row::TableRow;
 use crate::stops::NoTable;
@@ -24,7 +23,7 @@ pub struct Marks {
 }
 
 impl Marks {
-    ghost use Rattle.std.specs.Prelude.{pos, max, false};
+    ghost use Rattle.std.specs.Prelude.{pos, max};
 
     /// No marks yet, with room for as many.
     pub fn none(alloc: Global, width: usize) -> Result<Marks, NoTable>
@@ -188,14 +187,15 @@ fn mark_uses(uses: &mut [Marks], columns: &[FirstColumn])
     }
 }
 
-/// For each row a list that marks the columns with a number there.
+/// For each first row and each row of costs a list that marks the columns with a number there.
 pub fn uses_of(alloc: Global, first: &First) -> Result<Vec<Marks>, NoTable>
-    ensures long { IfOk result (λ u. length u.items ≡ first.now.rows) }
+    requires { first.now.rows ≤ most_rows }
+    ensures long { IfOk result (λ u. length u.items ≡ multipliers first.now.rows) }
     ensures wide { IfOk result (λ u. HaveWords u.items (suc (length first.now.columns.items / 64))) }
     ensures uses { IfOk result (λ u. AreUses u.items first.now.columns.items) }
 {
-    let mut uses = Vec::with_capacity(alloc, first.rows)?;
-    for _ in 0..first.rows {
+    let mut uses = Vec::with_capacity(alloc, first.rows + COSTS)?;
+    for _ in 0..first.rows + COSTS {
         uses.push(Marks::none(alloc, first.columns.len())?)?;
     }
     mark_uses(uses.as_mut_slice(), first.columns.as_slice());
@@ -204,21 +204,21 @@ pub fn uses_of(alloc: Global, first: &First) -> Result<Vec<Marks>, NoTable>
 
 /// The least plain column in which the objective row is negative, looked for among those with a mark. Clears the
 /// marks of those before it. Likely gives up if a sum of products doesn't fit.
-pub fn least_negative(given: &Given, row: &TableRow, marks: &mut Marks) -> Found<usize>
-    requires long { length marks.old.words.items ≡ suc (length given.now.first.columns.items / 64) }
-    requires clean { AreClean (number_in_row given.now (seen_of row.now) given.now.first.rows)
-        (length given.now.first.columns.items) marks.old.words.items }
+pub fn least_negative(first: &First, row: &TableRow, marks: &mut Marks) -> Found<usize>
+    requires long { length marks.old.words.items ≡ suc (length first.now.columns.items / 64) }
+    requires clean { AreClean (number_in_row first.now (seen_of row.now))
+        (length first.now.columns.items) marks.old.words.items }
     ensures long { length marks.new.words.items ≡ length marks.old.words.items }
-    ensures clean { AreClean (number_in_row given.now (seen_of row.now) given.now.first.rows)
-        (length given.now.first.columns.items) marks.new.words.items }
-    ensures value { TellsFound result (least_negative (number_in_row given.now (seen_of row.now) given.now.first.rows)
-        (length given.now.first.columns.items)) }
-    ensures below { IfFound result (λ j. j < length given.now.first.columns.items) }
+    ensures clean { AreClean (number_in_row first.now (seen_of row.now))
+        (length first.now.columns.items) marks.new.words.items }
+    ensures value { TellsFound result (least_negative (number_in_row first.now (seen_of row.now))
+        (length first.now.columns.items)) }
+    ensures below { IfFound result (λ j. j < length first.now.columns.items) }
 {
-    let end = given.first.columns.len();
+    let end = first.columns.len();
     let mut j = marks.next(0, end);
     while j < end {
-        match number_of(given, row, given.first.rows, j) {
+        match number_of(first, row, j) {
             Some(number) => if number < 0 {
                 return Found::This(j);
             },

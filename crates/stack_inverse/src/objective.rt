@@ -2,12 +2,13 @@
 
 ghost use Rattle.std.specs.Prelude.{◌≡◌, ℕ, suc, ◌<◌, length, pos, ◌<ℤ◌, eqb, cond, IfSome};
 ghost use Rattle.stack_rows.specs.RowForm.{number_at};
-ghost use Rattle.stack_inverse.specs.Columns.{IsFactorRow, HaveWidths};
+ghost use Rattle.stack_inverse.specs.Columns.{multipliers, IsFactorRow, HaveWidths};
 ghost use Rattle.stack_inverse.specs.RowsSeen.{seen_at};
 
-use crate::given::Given;
+use crate::first::First;
 use crate::making::number_of;
 use crate::row::TableRow;
+use num_traits::CheckedAdd;
 
 pub fn clear_row(row: &mut [i128])
     ensures { (j : ℕ) → number_at row.new j ≡ pos 0 }
@@ -26,33 +27,36 @@ pub fn set_only(row: &mut [i128], column: usize, number: i128)
     row[column] = number;
 }
 
-/// The numbers of a row whose cell in the column has to be 1, and its denominator; without a row, 0 over 1. Gives up
-/// if that cell isn't 1, and isn't likely to otherwise.
+/// The numbers of a row whose cell in the column has to be 1, and once the costs of phase 3, with its denominator;
+/// without a row these costs alone, over 1. Gives up if that cell isn't 1, and isn't likely to otherwise.
 pub fn factor_row(
-    given: &Given,
+    first: &First,
     rows: &[TableRow],
     numbers: &mut [i128],
     column: usize,
     row: Option<usize>,
 ) -> Option<i128>
-    requires width { length numbers.old ≡ suc given.now.first.rows }
-    requires widths { HaveWidths given.now.first.rows (seen_at rows.now) }
-    requires column_in { column < length given.now.first.columns.items }
-    requires row_in { IfSome row (λ r. r < given.now.first.rows) }
-    requires height { length rows.now ≡ suc given.now.first.rows }
+    requires width { length numbers.old ≡ suc (multipliers first.now.rows) }
+    requires widths { HaveWidths first.now.rows (seen_at rows.now) }
+    requires column_in { column < length first.now.columns.items }
+    requires row_in { IfSome row (λ r. r < first.now.rows) }
+    requires height { length rows.now ≡ suc first.now.rows }
     ensures positive { IfSome result (λ d. pos 0 <ℤ d) }
-    ensures ok { IfSome result (λ d. IsFactorRow given.now.first.rows given.now.first.columns.items
-        given.now.own.items (seen_at rows.now) column row numbers.new d) }
+    ensures ok { IfSome result (λ d. IsFactorRow first.now.rows first.now.columns.items
+        (seen_at rows.now) column row numbers.new d) }
 {
     match row {
         Some(r) => {
-            let cell = number_of(given, &rows[r], r, column)?;
+            let cell = number_of(first, &rows[r], column)?;
             numbers.copy_from_slice(rows[r].row.numbers.as_slice());
             let under = rows[r].row.under;
+            let at = first.rows + 1;
+            let cost = numbers[at];
+            numbers[at] = CheckedAdd::checked_add(&cost, &under)?;
             if cell == under { Some(under) } else { None }
         }
         None => {
-            clear_row(numbers);
+            set_only(numbers, first.rows + 1, 1);
             Some(1)
         }
     }

@@ -6,16 +6,16 @@ ghost use Rattle.stack_algebra.proofs.OrderedFractions.{ordered_fractions};
 ghost use Rattle.stack_rational.specs.Laws.{widest};
 ghost use Rattle.stack_rational.specs.TooWide.{is_too_wide};
 ghost use Rattle.stack_table.specs.Spots.{cells_spot};
-ghost use Rattle.stack_inverse.specs.RowBlock.{IsPivotedCells, IsDividedRow, IsReducedRow, AreFitting};
+ghost use Rattle.stack_inverse.specs.RowBlock.{IsPivotedCells, IsDividedRow, IsReducedRow, AreFitting, KeepsZeros};
 ghost use Rattle.stack_inverse.specs.CellSteps.{TellsSpot, PivotIsRefused};
-ghost use Rattle.stack_inverse.specs.Columns.{HaveWidths, IsPut, AreEntered};
+ghost use Rattle.stack_inverse.specs.Columns.{multipliers, HaveWidths, IsPut, AreEntered};
 ghost use Rattle.stack_inverse.specs.RowsSeen.{seen_of, seen_at, number_in_row, cell_in_row, cells_of_rows, pivot_cell};
 ghost use Rattle.stack_inverse.specs.RowsSeen.{IsPivotRow, columns_of};
 ghost use Rattle.stack_inverse.specs.Marks.{mark_in};
 ghost use Rattle.stack_rows.specs.RowForm.{number_at};
 
 use crate::bounding::{pivot_top, under_fits};
-use crate::given::Given;
+use crate::first::First;
 use crate::reducing::reduce;
 use crate::row::{PivotRow, TableRow};
 use crate::to_visit::ToVisit;
@@ -25,25 +25,27 @@ use stack_table::TurnRefusal;
 /// Divides row r, which isn't the objective row, by its cell in a column, whose number is given. Likely gives up
 /// if a number of the row in a plain column doesn't fit.
 fn divide(
-    given: &Given,
+    first: &First,
     row: &TableRow,
     pivot: &mut PivotRow,
     number: i128,
     r: usize,
     column: usize,
 ) -> Option<()>
-    requires width { length row.now.row.numbers.items ≡ suc given.now.first.rows }
-    requires room { length pivot.old.row.numbers.items ≡ suc given.now.first.rows }
-    requires row_in { r < given.now.first.rows }
-    requires number { number ≡ number_in_row given.now (seen_of row.now) r column }
+    requires width { length row.now.row.numbers.items ≡ suc (multipliers first.now.rows) }
+    requires room { length pivot.old.row.numbers.items ≡ suc (multipliers first.now.rows) }
+    requires row_in { r < first.now.rows }
+    requires number { number ≡ number_in_row first.now (seen_of row.now) column }
     requires some { number ≢ pos 0 }
     ensures room { length pivot.new.row.numbers.items ≡ length pivot.old.row.numbers.items }
-    ensures pivot { OnSome result (IsPivotRow given.now pivot.new) }
-    ensures ok { OnSome result (IsDividedRow widest (cell_in_row given.now (seen_of row.now) r) column
-        (pivot_cell given.now pivot.new)) }
+    ensures pivot { OnSome result (IsPivotRow first.now pivot.new) }
+    ensures zeros { OnSome result ((q : ℕ) → number_at row.now.row.numbers.items q ≡ pos 0 →
+        number_at pivot.new.row.numbers.items q ≡ pos 0) }
+    ensures ok { OnSome result (IsDividedRow widest (cell_in_row first.now (seen_of row.now)) column
+        (pivot_cell first.now pivot.new)) }
 {
     pivot.row.divide(&row.row, number)?;
-    pivot.whole_top = pivot_top(&given.first, &pivot.row)?;
+    pivot.whole_top = pivot_top(first, &pivot.row)?;
     under_fits(&pivot.row);
     Some(())
 }
@@ -74,7 +76,7 @@ fn put_pivot(rows: &mut [TableRow], i: usize, pivot: &Row)
 /// Reduces each row but the pivot's by the pivot row. `entered` has the numbers of the column, and a row without a mark
 /// of `to_visit` has 0 there. `TooWide` names the first operation that is too wide. Gives up as `reduce` does.
 fn reduce_others(
-    given: &Given,
+    first: &First,
     rows: &mut [TableRow],
     pivot: &PivotRow,
     entered: &[i128],
@@ -82,26 +84,28 @@ fn reduce_others(
     row: usize,
     column: usize,
 ) -> Result<(), TurnRefusal>
-    requires height { length rows.old ≡ suc given.now.first.rows }
-    requires widths { HaveWidths given.now.first.rows (seen_at rows.old) }
-    requires pivot { IsPivotRow given.now pivot.now }
-    requires long { length entered.now ≡ suc given.now.first.rows }
-    requires entered { AreEntered given.now.first.rows given.now.first.columns.items given.now.own.items
+    requires height { length rows.old ≡ suc first.now.rows }
+    requires widths { HaveWidths first.now.rows (seen_at rows.old) }
+    requires pivot { IsPivotRow first.now pivot.now }
+    requires long { length entered.now ≡ suc (multipliers first.now.rows) }
+    requires entered { AreEntered first.now.rows first.now.columns.items
         (seen_at rows.old) column entered.now }
-    requires fitting { AreFitting widest (cells_of_rows given.now rows.old) (seen_at rows.old) }
-    requires touched_long { length to_visit.now.touched.words.items ≡ suc (suc given.now.first.rows / 64) }
-    requires touched { (i : ℕ) → i ≤ given.now.first.rows → mark_in to_visit.now.touched.words.items i ≡ 0 →
+    requires fitting { AreFitting widest (cells_of_rows first.now rows.old) (seen_at rows.old) }
+    requires touched_long { length to_visit.now.touched.words.items ≡ suc (suc first.now.rows / 64) }
+    requires touched { (i : ℕ) → i ≤ first.now.rows → mark_in to_visit.now.touched.words.items i ≡ 0 →
         number_at entered.now i ≡ pos 0 }
-    requires all_fit { to_visit.now.all_fit ≡ true → (i : ℕ) → i ≤ given.now.first.rows →
+    requires all_fit { to_visit.now.all_fit ≡ true → (i : ℕ) → i ≤ first.now.rows →
         (seen_at rows.old i).fits ≡ true }
-    ensures widths { HaveWidths given.now.first.rows (seen_at rows.new) }
-    ensures fitting { AreFitting widest (cells_of_rows given.now rows.new) (seen_at rows.new) }
-    ensures fit { OnOk result ((k : ℕ) → k < suc given.now.first.rows → (k ≢ row) → (seen_at rows.new k).fits ≡ true) }
-    ensures ok { OnOk result ((k : ℕ) → k < suc given.now.first.rows → (k ≢ row) →
-        IsReducedRow widest (columns_of given.now) (cells_of_rows given.now rows.old k) (pivot_cell given.now pivot.now)
-        k column (cells_of_rows given.now rows.new k)) }
-    ensures refused { IfErr result (λ e. PivotIsRefused widest (suc given.now.first.rows) (columns_of given.now)
-        (cells_of_rows given.now rows.old) (pivot_cell given.now pivot.now) row column e) }
+    ensures widths { HaveWidths first.now.rows (seen_at rows.new) }
+    ensures fitting { AreFitting widest (cells_of_rows first.now rows.new) (seen_at rows.new) }
+    ensures fit { OnOk result ((k : ℕ) → k < suc first.now.rows → (k ≢ row) → (seen_at rows.new k).fits ≡ true) }
+    ensures ok { OnOk result ((k : ℕ) → k < suc first.now.rows → (k ≢ row) →
+        IsReducedRow widest (columns_of first.now) (cells_of_rows first.now rows.old k) (pivot_cell first.now pivot.now)
+        k column (cells_of_rows first.now rows.new k)) }
+    ensures zeros { OnOk result ((k : ℕ) → k < suc first.now.rows → (k ≢ row) → KeepsZeros (seen_at rows.old k).numbers
+        pivot.now.row.numbers.items (number_at entered.now k) (seen_at rows.new k).numbers) }
+    ensures refused { IfErr result (λ e. PivotIsRefused widest (suc first.now.rows) (columns_of first.now)
+        (cells_of_rows first.now rows.old) (pivot_cell first.now pivot.now) row column e) }
 {
     let divider = Divider::of(pivot.row.under);
     let mut i = to_visit.next_row(0, rows.len());
@@ -110,7 +114,7 @@ fn reduce_others(
             i = to_visit.next_row(i + 1, rows.len());
             continue;
         }
-        match reduce(given, &mut rows[i], pivot, divider, entered[i], i) {
+        match reduce(first, &mut rows[i], pivot, divider, entered[i], i) {
             Ok(()) => {}
             Err(e) => return Err(e),
         }
@@ -123,7 +127,7 @@ fn reduce_others(
 /// `reduce_others`. `TooWide` names the first operation that is too wide. Gives up if the row can't be divided, or
 /// another can't be reduced.
 pub fn pivot_rows(
-    given: &Given,
+    first: &First,
     rows: &mut [TableRow],
     pivot: &mut PivotRow,
     entered: &[i128],
@@ -131,34 +135,38 @@ pub fn pivot_rows(
     row: usize,
     column: usize,
 ) -> Result<(), TurnRefusal>
-    requires height { length rows.old ≡ suc given.now.first.rows }
-    requires widths { HaveWidths given.now.first.rows (seen_at rows.old) }
-    requires room { length pivot.old.row.numbers.items ≡ suc given.now.first.rows }
-    requires fitting { AreFitting widest (cells_of_rows given.now rows.old) (seen_at rows.old) }
-    requires long { length entered.now ≡ suc given.now.first.rows }
-    requires entered { AreEntered given.now.first.rows given.now.first.columns.items given.now.own.items
+    requires height { length rows.old ≡ suc first.now.rows }
+    requires widths { HaveWidths first.now.rows (seen_at rows.old) }
+    requires room { length pivot.old.row.numbers.items ≡ suc (multipliers first.now.rows) }
+    requires fitting { AreFitting widest (cells_of_rows first.now rows.old) (seen_at rows.old) }
+    requires long { length entered.now ≡ suc (multipliers first.now.rows) }
+    requires entered { AreEntered first.now.rows first.now.columns.items
         (seen_at rows.old) column entered.now }
-    requires touched_long { length to_visit.now.touched.words.items ≡ suc (suc given.now.first.rows / 64) }
-    requires touched { (i : ℕ) → i ≤ given.now.first.rows → mark_in to_visit.now.touched.words.items i ≡ 0 →
+    requires touched_long { length to_visit.now.touched.words.items ≡ suc (suc first.now.rows / 64) }
+    requires touched { (i : ℕ) → i ≤ first.now.rows → mark_in to_visit.now.touched.words.items i ≡ 0 →
         number_at entered.now i ≡ pos 0 }
-    requires all_fit { to_visit.now.all_fit ≡ true → (i : ℕ) → i ≤ given.now.first.rows →
+    requires all_fit { to_visit.now.all_fit ≡ true → (i : ℕ) → i ≤ first.now.rows →
         (seen_at rows.old i).fits ≡ true }
-    requires row_in { row < given.now.first.rows }
-    requires some { number_in_row given.now (seen_at rows.old row) row column ≢ pos 0 }
-    ensures widths { HaveWidths given.now.first.rows (seen_at rows.new) }
+    requires row_in { row < first.now.rows }
+    requires some { number_in_row first.now (seen_at rows.old row) column ≢ pos 0 }
+    ensures widths { HaveWidths first.now.rows (seen_at rows.new) }
     ensures room { length pivot.new.row.numbers.items ≡ length pivot.old.row.numbers.items }
-    ensures fitting { AreFitting widest (cells_of_rows given.now rows.new) (seen_at rows.new) }
-    ensures fit { OnOk result ((k : ℕ) → k ≤ given.now.first.rows → (seen_at rows.new k).fits ≡ true) }
-    ensures ok { OnOk result (IsPivotedCells widest (suc given.now.first.rows) (columns_of given.now)
-        (cells_of_rows given.now rows.old) row column (cells_of_rows given.now rows.new)) }
+    ensures fitting { AreFitting widest (cells_of_rows first.now rows.new) (seen_at rows.new) }
+    ensures fit { OnOk result ((k : ℕ) → k ≤ first.now.rows → (seen_at rows.new k).fits ≡ true) }
+    ensures ok { OnOk result (IsPivotedCells widest (suc first.now.rows) (columns_of first.now)
+        (cells_of_rows first.now rows.old) row column (cells_of_rows first.now rows.new)) }
+    ensures zeros { OnOk result ((k : ℕ) → k ≤ first.now.rows → (k ≢ row) → KeepsZeros (seen_at rows.old k).numbers
+        (seen_at rows.new row).numbers (number_at entered.now k) (seen_at rows.new k).numbers) }
+    ensures own_zeros { OnOk result ((q : ℕ) → number_at (seen_at rows.old row).numbers q ≡ pos 0 →
+        number_at (seen_at rows.new row).numbers q ≡ pos 0) }
     ensures refused { IfErr result (λ e. TellsSpot e (cells_spot ordered_fractions (is_too_wide widest)
-        (suc given.now.first.rows) (columns_of given.now) (cells_of_rows given.now rows.old) row column)) }
+        (suc first.now.rows) (columns_of first.now) (cells_of_rows first.now rows.old) row column)) }
 {
-    match divide(given, &rows[row], pivot, entered[row], row, column) {
+    match divide(first, &rows[row], pivot, entered[row], row, column) {
         Some(()) => {}
         None => return Err(TurnRefusal::Unsettled),
     }
-    match reduce_others(given, rows, pivot, entered, to_visit, row, column) {
+    match reduce_others(first, rows, pivot, entered, to_visit, row, column) {
         Ok(()) => {
             put_pivot(rows, row, &pivot.row);
             Ok(())

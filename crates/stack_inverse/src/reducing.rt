@@ -1,6 +1,6 @@
 //! A row step: the pivot row times a row's cell in the pivot's column is taken from the row.
 
-ghost use Rattle.std.specs.Prelude.{◌≡◌, ℕ, suc, ◌≤◌, ◌*ℤ◌, pos, true, false, None, length, OnSome, OnOk, IfErr};
+ghost use Rattle.std.specs.Prelude.{◌≡◌, ℕ, suc, ◌≤◌, ◌*ℤ◌, true, false, None, length, OnSome, OnOk, IfErr};
 ghost use Rattle.stack_algebra.proofs.Over.{over};
 ghost use Rattle.stack_algebra.proofs.OrderedFractions.{ordered_fractions};
 ghost use Rattle.stack_rational.specs.Order.{is_zero_whole};
@@ -8,12 +8,13 @@ ghost use Rattle.stack_rational.specs.Laws.{widest};
 ghost use Rattle.stack_rational.specs.TooWide.{is_too_wide};
 ghost use Rattle.stack_table.specs.Spots.{reduce_spot};
 ghost use Rattle.stack_rows.specs.RowForm.{IsTaken};
-ghost use Rattle.stack_inverse.specs.RowBlock.{IsReducedRow, AllNumbersFit};
+ghost use Rattle.stack_inverse.specs.RowBlock.{IsReducedRow, AllNumbersFit, KeepsZeros};
+ghost use Rattle.stack_inverse.specs.Columns.{multipliers};
 ghost use Rattle.stack_inverse.specs.CellSteps.{TellsSpot};
 ghost use Rattle.stack_inverse.specs.RowsSeen.{seen_of, number_in_row, cell_in_row, pivot_cell, IsPivotRow, columns_of};
 
-use crate::bounding::{fits_for, own_top_of, small_step, under_fits};
-use crate::given::Given;
+use crate::bounding::{fits_for, small_step, under_fits};
+use crate::first::First;
 use crate::row::{PivotRow, TableRow};
 use crate::spots::{RowStep, cell, numbers_fit, reduced_cell, row_spot};
 use stack_bland::Found;
@@ -96,28 +97,34 @@ fn take_or_remake(row: &mut Row, pivot: &Row, s: &RowStep) -> Option<()>
 /// The same cell by cell. `TooWide` names the first operation that is too wide. Likely given up if the reduced cells
 /// have no common denominator with which all numbers fit.
 fn step_by_cells(
-    given: &Given,
+    first: &First,
     row: &mut TableRow,
     pivot: &PivotRow,
     s: &RowStep,
     i: usize,
 ) -> Result<(), TurnRefusal>
-    requires width { length row.old.row.numbers.items ≡ suc given.now.first.rows }
-    requires pivot { IsPivotRow given.now pivot.now }
+    requires width { length row.old.row.numbers.items ≡ suc (multipliers first.now.rows) }
+    requires pivot { IsPivotRow first.now pivot.now }
     requires under { s.now.under ≡ row.old.row.under }
     requires pivot_under { s.now.pivot_under ≡ pivot.now.row.under }
     ensures width { length row.new.row.numbers.items ≡ length row.old.row.numbers.items }
     ensures fits { row.new.fits ≡ row.old.fits }
     ensures ok { OnOk result (IsTaken row.old.row.numbers.items (s.now.under *ℤ s.now.pivot_under)
         pivot.now.row.numbers.items s.now.pivot_under s.now.number row.new.row.numbers.items row.new.row.under) }
-    ensures none { OnOk result (reduce_spot ordered_fractions (is_too_wide widest) (columns_of given.now)
-        (cell_in_row given.now (seen_of row.old) i) (pivot_cell given.now pivot.now)
+    ensures none { OnOk result (reduce_spot ordered_fractions (is_too_wide widest) (columns_of first.now)
+        (cell_in_row first.now (seen_of row.old)) (pivot_cell first.now pivot.now)
         (over s.now.number s.now.under) i ≡ None) }
     ensures refused { IfErr result (λ e. TellsSpot e (reduce_spot ordered_fractions (is_too_wide widest)
-        (columns_of given.now) (cell_in_row given.now (seen_of row.old) i) (pivot_cell given.now pivot.now)
+        (columns_of first.now) (cell_in_row first.now (seen_of row.old)) (pivot_cell first.now pivot.now)
         (over s.now.number s.now.under) i)) }
 {
-    match row_spot(given, row, pivot.row.numbers.as_slice(), s, i) {
+    match row_spot(
+        first,
+        row.row.numbers.as_slice(),
+        pivot.row.numbers.as_slice(),
+        s,
+        i,
+    ) {
         Found::Nothing => {}
         Found::This(spot) => return Err(TurnRefusal::TooWide(spot)),
         Found::GaveUp => return Err(TurnRefusal::Unsettled),
@@ -130,39 +137,40 @@ fn step_by_cells(
 
 /// The same by tops, or cell by cell if the step doesn't fit by these. `number` is the row's in the pivot's column.
 fn step(
-    given: &Given,
+    first: &First,
     row: &mut TableRow,
     pivot: &PivotRow,
     divider: Divider,
     number: i128,
     i: usize,
 ) -> Result<(), TurnRefusal>
-    requires width { length row.old.row.numbers.items ≡ suc given.now.first.rows }
-    requires pivot { IsPivotRow given.now pivot.now }
+    requires width { length row.old.row.numbers.items ≡ suc (multipliers first.now.rows) }
+    requires pivot { IsPivotRow first.now pivot.now }
     requires divider { divider.by ≡ pivot.now.row.under }
     ensures width { length row.new.row.numbers.items ≡ length row.old.row.numbers.items }
     ensures fits { row.new.fits ≡ row.old.fits }
-    ensures ok { OnOk result ((column : ℕ) → number ≡ number_in_row given.now (seen_of row.old) i column →
-        IsReducedRow widest (columns_of given.now) (cell_in_row given.now (seen_of row.old) i)
-        (pivot_cell given.now pivot.now) i column (cell_in_row given.now (seen_of row.new) i)) }
-    ensures refused { IfErr result (λ e. (column : ℕ) → number ≡ number_in_row given.now (seen_of row.old) i column →
-        TellsSpot e (reduce_spot ordered_fractions (is_too_wide widest) (columns_of given.now)
-        (cell_in_row given.now (seen_of row.old) i) (pivot_cell given.now pivot.now)
-        (cell_in_row given.now (seen_of row.old) i column) i)) }
+    ensures ok { OnOk result ((column : ℕ) → number ≡ number_in_row first.now (seen_of row.old) column →
+        IsReducedRow widest (columns_of first.now) (cell_in_row first.now (seen_of row.old))
+        (pivot_cell first.now pivot.now) i column (cell_in_row first.now (seen_of row.new))) }
+    ensures zeros { OnOk result (KeepsZeros row.old.row.numbers.items pivot.now.row.numbers.items number
+        row.new.row.numbers.items) }
+    ensures refused { IfErr result (λ e. (column : ℕ) → number ≡ number_in_row first.now (seen_of row.old) column →
+        TellsSpot e (reduce_spot ordered_fractions (is_too_wide widest) (columns_of first.now)
+        (cell_in_row first.now (seen_of row.old)) (pivot_cell first.now pivot.now)
+        (cell_in_row first.now (seen_of row.old) column) i)) }
 {
     let factors = match factors_of(number, divider) {
         Some(factors) => factors,
         None => return Err(TurnRefusal::Unsettled),
     };
-    let own_top = own_top_of(given, i);
-    match small_step(&given.first, &row.row, pivot, factors, own_top) {
+    match small_step(first, &row.row, pivot, factors) {
         Some(step) => return match row.row.take_small(&pivot.row, &step) {
             Some(()) => Ok(()),
             None => Err(TurnRefusal::Unsettled),
         },
         None => {}
     }
-    if fits_for(&given.first, &mut row.row, pivot, factors, own_top) {
+    if fits_for(first, &mut row.row, pivot, factors) {
         return match row.row.take(&pivot.row, factors) {
             Some(()) => Ok(()),
             None => Err(TurnRefusal::Unsettled),
@@ -179,7 +187,7 @@ fn step(
         cell,
         factors,
     };
-    match step_by_cells(given, row, pivot, &s, i) {
+    match step_by_cells(first, row, pivot, &s, i) {
         Ok(()) => {
             under_fits(&row.row);
             Ok(())
@@ -200,33 +208,35 @@ fn stays(row: &TableRow, number: i128) -> bool
 /// fit stays as it is if its cell is 0, and one that is reduced fits; one whose step is refused is spent, and isn't
 /// known to fit.
 pub fn reduce(
-    given: &Given,
+    first: &First,
     row: &mut TableRow,
     pivot: &PivotRow,
     divider: Divider,
     number: i128,
     i: usize,
 ) -> Result<(), TurnRefusal>
-    requires width { length row.old.row.numbers.items ≡ suc given.now.first.rows }
-    requires pivot { IsPivotRow given.now pivot.now }
+    requires width { length row.old.row.numbers.items ≡ suc (multipliers first.now.rows) }
+    requires pivot { IsPivotRow first.now pivot.now }
     requires divider { divider.by ≡ pivot.now.row.under }
     ensures width { length row.new.row.numbers.items ≡ length row.old.row.numbers.items }
     ensures unfit { IfErr result (λ e. row.new.fits ≡ false) }
     ensures fitting { OnOk result (row.new.fits ≡ true) }
-    ensures ok { OnOk result ((column : ℕ) → number ≡ number_in_row given.now (seen_of row.old) i column →
-        (row.old.fits ≡ true → AllNumbersFit widest (cell_in_row given.now (seen_of row.old) i)) →
-        IsReducedRow widest (columns_of given.now) (cell_in_row given.now (seen_of row.old) i)
-        (pivot_cell given.now pivot.now) i column (cell_in_row given.now (seen_of row.new) i)) }
-    ensures refused { IfErr result (λ e. (column : ℕ) → number ≡ number_in_row given.now (seen_of row.old) i column →
-        TellsSpot e (reduce_spot ordered_fractions (is_too_wide widest) (columns_of given.now)
-        (cell_in_row given.now (seen_of row.old) i) (pivot_cell given.now pivot.now)
-        (cell_in_row given.now (seen_of row.old) i column) i)) }
+    ensures ok { OnOk result ((column : ℕ) → number ≡ number_in_row first.now (seen_of row.old) column →
+        (row.old.fits ≡ true → AllNumbersFit widest (cell_in_row first.now (seen_of row.old))) →
+        IsReducedRow widest (columns_of first.now) (cell_in_row first.now (seen_of row.old))
+        (pivot_cell first.now pivot.now) i column (cell_in_row first.now (seen_of row.new))) }
+    ensures zeros { OnOk result (KeepsZeros row.old.row.numbers.items pivot.now.row.numbers.items number
+        row.new.row.numbers.items) }
+    ensures refused { IfErr result (λ e. (column : ℕ) → number ≡ number_in_row first.now (seen_of row.old) column →
+        TellsSpot e (reduce_spot ordered_fractions (is_too_wide widest) (columns_of first.now)
+        (cell_in_row first.now (seen_of row.old)) (pivot_cell first.now pivot.now)
+        (cell_in_row first.now (seen_of row.old) column) i)) }
 {
     if stays(row, number) {
         return Ok(());
     }
     row.fits = false;
-    match step(given, row, pivot, divider, number, i) {
+    match step(first, row, pivot, divider, number, i) {
         Ok(()) => {
             row.fits = true;
             Ok(())

@@ -1,4 +1,4 @@
-//! The marks of the first rows, and those after a pivot.
+//! The first marks, and those after a pivot.
 
 ghost use Rattle.std.specs.Prelude.{◌≡◌, ◌≢◌, ℕ, suc, ◌<◌, ◌≤◌, ◌/◌, length, true, false, IfOk};
 ghost use Rattle.stack_inverse.specs.Marks.{mark_at, HaveWords, AreMarkedOn, AreFull};
@@ -9,7 +9,7 @@ use std::alloc::Global;
 
 /// For each row a list of marks, in which the row itself is marked.
 pub fn first_places(alloc: Global, rows: usize, width: usize) -> Result<Vec<Marks>, NoTable>
-    requires { rows ≤ width }
+    requires { rows ≤ suc width }
     ensures long { IfOk result (λ l. length l.items ≡ rows) }
     ensures wide { IfOk result (λ l. HaveWords l.items (suc (width / 64))) }
     ensures diagonal { IfOk result (λ l. (r : ℕ) → r < rows → mark_at l.items r r ≢ 0) }

@@ -1,4 +1,4 @@
-//! The table of a run by its artificial columns.
+//! The table of a run by its multipliers.
 
 ghost use Rattle.std.specs.Prelude.{◌≡◌, ℕ, suc, ◌+◌, ◌<◌, ◌≤◌, ◌/◌, length, get_or, true};
 ghost use Rattle.stack_rational.specs.Laws.{widest};
@@ -6,19 +6,19 @@ ghost use Rattle.stack_whole.specs.Limits.{most_rows};
 ghost use Rattle.stack_table.specs.Table.{plain, columns};
 ghost use Rattle.stack_table.specs.Block.{shape_of};
 ghost use Rattle.stack_inverse.specs.RowBlock.{AreFitting};
-ghost use Rattle.stack_inverse.specs.Columns.{HaveWidths};
+ghost use Rattle.stack_inverse.specs.Columns.{multipliers, HaveWidths, AreFactorCosts};
 ghost use Rattle.stack_bland.specs.Found.{TellsFound, IfFound};
 ghost use Rattle.stack_inverse.specs.Marks.{HaveWords, ArePlaces, AreUses, AreClean, least_negative};
 ghost use Rattle.stack_inverse.specs.RowsSeen.{seen_at, cells_of_rows, number_in_row};
 ghost use Rattle.stack_inverse.specs.FoundProps.{TellsFound-prop, below_prop};
 ghost use Rattle.std.proofs.Props.{props};
 
-use crate::building::given_of;
+use crate::building::first_of;
 use crate::filling::{fill, first_basics, rows_of, zeros};
-use crate::given::Given;
+use crate::first::{COSTS, First};
 use crate::making::{enter_column, number_of};
 use crate::marks::{Marks, least_negative, mark_column, uses_of};
-use crate::objective::{clear_row, factor_row, set_only};
+use crate::objective::{clear_row, factor_row};
 use crate::pivoting::{pivot_rows, put_row};
 use crate::remarking::{first_places, mark_on};
 use crate::row::{PivotRow, TableRow};
@@ -32,15 +32,15 @@ use std::alloc::Global;
 /// How many numbers a row has, the right side among them: places in a row are of 16 bits.
 fn width_of(rows: usize) -> u16
     requires { rows ≤ most_rows }
-    ensures { result ≡ suc rows }
+    ensures { result ≡ suc (multipliers rows) }
 {
-    (rows + 1) as u16
+    (rows + COSTS + 1) as u16
 }
 
 /// The exact table of a run. Row `rows` is the objective row.
 #[derive(Drop)]
 pub struct RevisedTable {
-    given: Given,
+    first: First,
     /// The objective row last.
     rows: Vec<TableRow>,
     /// The basic column of each row.
@@ -49,9 +49,9 @@ pub struct RevisedTable {
     pivot: PivotRow,
     /// Room for the numbers of the entering column, row by row.
     entered: Vec<i128>,
-    /// For each artificial column a list of marks: a row without one has nothing there.
+    /// For each multiplier a list of marks: a row without one has 0 there.
     places: Vec<Marks>,
-    /// For each row a list of marks: a plain column without one has no number there.
+    /// For each first row and each row of costs a list of marks: a plain column without one has no number there.
     uses: Vec<Marks>,
     /// The rows that the next pivot visits.
     to_visit: ToVisit,
@@ -61,29 +61,30 @@ pub struct RevisedTable {
     least: Found<usize>,
     contacts: usize,
     has_factor: bool,
-    ghost plain_count: { length given.first.columns.items ≡ plain (shape_of given.first.rows contacts has_factor) },
-    ghost height: { length rows.items ≡ suc given.first.rows },
-    ghost widths: { HaveWidths given.first.rows (seen_at rows.items) },
-    ghost fitting: { AreFitting widest (cells_of_rows given rows.items) (seen_at rows.items) },
-    ghost room: { length pivot.row.numbers.items ≡ suc given.first.rows },
-    ghost one_number: { length entered.items ≡ suc given.first.rows },
-    ghost places_long: { length places.items ≡ given.first.rows },
-    ghost places_wide: { HaveWords places.items (suc (suc given.first.rows / 64)) },
-    ghost told: { ArePlaces places.items given.first.rows (seen_at rows.items) },
-    ghost uses_long: { length uses.items ≡ given.first.rows },
-    ghost uses_wide: { HaveWords uses.items (suc (length given.first.columns.items / 64)) },
-    ghost used: { AreUses uses.items given.first.columns.items } by { Prim.hlevel props },
-    ghost each_fits: { to_visit.all_fit ≡ true → (i : ℕ) → i ≤ given.first.rows → (seen_at rows.items i).fits ≡ true },
-    ghost touched_long: { length to_visit.touched.words.items ≡ suc (suc given.first.rows / 64) },
-    ghost open_long: { length open.words.items ≡ suc (length given.first.columns.items / 64) },
-    ghost clean: { AreClean (number_in_row given (seen_at rows.items given.first.rows) given.first.rows)
-        (length given.first.columns.items) open.words.items },
-    ghost found: { TellsFound least (least_negative (number_in_row given (seen_at rows.items given.first.rows)
-        given.first.rows) (length given.first.columns.items)) } by { TellsFound-prop _ _ },
-    ghost found_below: { IfFound least (λ j. j < length given.first.columns.items) } by { below_prop _ _ },
-    ghost basics: { length basic.items ≡ given.first.rows },
-    ghost basics_in: { (i : ℕ) → i < given.first.rows →
-        get_or basic.items i 0 < columns (shape_of given.first.rows contacts has_factor) },
+    ghost plain_count: { length first.columns.items ≡ plain (shape_of first.rows contacts has_factor) },
+    ghost costs: { AreFactorCosts first.rows first.columns.items contacts },
+    ghost height: { length rows.items ≡ suc first.rows },
+    ghost widths: { HaveWidths first.rows (seen_at rows.items) },
+    ghost fitting: { AreFitting widest (cells_of_rows first rows.items) (seen_at rows.items) },
+    ghost room: { length pivot.row.numbers.items ≡ suc (multipliers first.rows) },
+    ghost one_number: { length entered.items ≡ suc (multipliers first.rows) },
+    ghost places_long: { length places.items ≡ multipliers first.rows },
+    ghost places_wide: { HaveWords places.items (suc (suc first.rows / 64)) },
+    ghost told: { ArePlaces places.items first.rows (seen_at rows.items) },
+    ghost uses_long: { length uses.items ≡ multipliers first.rows },
+    ghost uses_wide: { HaveWords uses.items (suc (length first.columns.items / 64)) },
+    ghost used: { AreUses uses.items first.columns.items } by { Prim.hlevel props },
+    ghost each_fits: { to_visit.all_fit ≡ true → (i : ℕ) → i ≤ first.rows → (seen_at rows.items i).fits ≡ true },
+    ghost touched_long: { length to_visit.touched.words.items ≡ suc (suc first.rows / 64) },
+    ghost open_long: { length open.words.items ≡ suc (length first.columns.items / 64) },
+    ghost clean: { AreClean (number_in_row first (seen_at rows.items first.rows))
+        (length first.columns.items) open.words.items },
+    ghost found: { TellsFound least (least_negative (number_in_row first (seen_at rows.items first.rows))
+        (length first.columns.items)) } by { TellsFound-prop _ _ },
+    ghost found_below: { IfFound least (λ j. j < length first.columns.items) } by { below_prop _ _ },
+    ghost basics: { length basic.items ≡ first.rows },
+    ghost basics_in: { (i : ℕ) → i < first.rows →
+        get_or basic.items i 0 < columns (shape_of first.rows contacts has_factor) },
 }
 
 impl RevisedTable {
@@ -98,35 +99,35 @@ impl RevisedTable {
     ghost use Rattle.stack_table.specs.WrittenTable.{written_table};
     ghost use Rattle.stack_inverse.specs.Seen.{shape_of_revised, table_of_revised, number_in, under_in, IsEntered};
 
-    /// The written table of a problem. All memory of a run is taken here. Likely given up if an entry, or the sum of
-    /// the right sides, doesn't fit.
+    /// The written table of a problem. All memory of a run is taken here. Likely given up if an entry, the sum of a
+    /// column or that of the right sides doesn't fit.
     pub fn of_problem(alloc: Global, p: &Problem) -> Result<RevisedTable, NoTable>
         requires { IsProblem p.now }
         ensures shape { IfOk result (λ t. shape_of_revised t ≡ shape_of_problem p.now) }
         ensures ok { IfOk result (λ t. table_of_revised t ≡ written_table ordered_fractions (problem_of p.now)) }
     {
-        let given = given_of(alloc, p)?;
+        let first = first_of(alloc, p)?;
         let width = width_of(p.rows);
-        let mut rows = rows_of(alloc, width)?;
+        let mut rows = rows_of(alloc, p.rows + 1, width)?;
         let pivot = PivotRow {
             row: Row::zeros(alloc, width)?,
             whole_top: 0,
         };
-        let mut entered = zeros(alloc, p.rows + 1)?;
-        let basic = first_basics(alloc, given.first.columns.len(), p.rows)?;
+        let mut entered = zeros(alloc, p.rows + COSTS + 1)?;
+        let basic = first_basics(alloc, first.columns.len(), p.rows)?;
         fill(
             rows.as_mut_slice(),
             entered.as_mut_slice(),
             p.right.as_slice(),
         )?;
-        let places = first_places(alloc, p.rows, p.rows + 1)?;
-        let uses = uses_of(alloc, &given.first)?;
+        let places = first_places(alloc, p.rows + COSTS, p.rows + 1)?;
+        let uses = uses_of(alloc, &first)?;
         let touched = Marks::none(alloc, p.rows + 1)?;
-        let mut open = Marks::none(alloc, given.first.columns.len())?;
+        let mut open = Marks::none(alloc, first.columns.len())?;
         open.fill();
-        let least = least_negative(&given, &rows[p.rows], &mut open);
+        let least = least_negative(&first, &rows[p.rows], &mut open);
         Ok(RevisedTable {
-            given,
+            first,
             rows,
             basic,
             pivot,
@@ -147,14 +148,14 @@ impl RevisedTable {
     pub fn rows(&self) -> usize
         ensures { result ≡ (shape_of_revised self.now).rows }
     {
-        self.given.first.rows
+        self.first.rows
     }
 
     /// The columns before the artificial ones.
     pub fn plain(&self) -> usize
         ensures { result ≡ plain (shape_of_revised self.now) }
     {
-        self.given.first.columns.len()
+        self.first.columns.len()
     }
 
     pub fn contacts(&self) -> usize
@@ -185,7 +186,7 @@ impl RevisedTable {
         requires j_in { j < plain (shape_of_revised self.now) }
         ensures { IfSome result (λ r. r ≡ number_in self.now i j) }
     {
-        number_of(&self.given, &self.rows[i], i, j)
+        number_of(&self.first, &self.rows[i], j)
     }
 
     /// Makes the numbers of a plain column, row by row, and keeps them. Gives up as `number` does.
@@ -197,11 +198,11 @@ impl RevisedTable {
     {
         mark_column(
             self.places.as_slice(),
-            self.given.first.columns[column].cells.as_slice(),
+            self.first.columns[column].cells.as_slice(),
             &mut self.to_visit.touched,
         );
         enter_column(
-            &self.given,
+            &self.first,
             self.rows.as_slice(),
             &mut self.to_visit.touched,
             self.entered.as_mut_slice(),
@@ -238,7 +239,7 @@ impl RevisedTable {
         requires { i ≤ (shape_of_revised self.now).rows }
         ensures { result ≡ number_in self.now i (columns (shape_of_revised self.now)) }
     {
-        self.rows[i].row.numbers[self.given.first.rows]
+        self.rows[i].row.numbers[self.first.rows + COSTS]
     }
 
     /// The number of the objective row in a row's artificial column, over the denominator of the objective row.
@@ -247,7 +248,7 @@ impl RevisedTable {
         ensures { result ≡ number_in self.now (shape_of_revised self.now).rows
             (plain (shape_of_revised self.now) + i) }
     {
-        self.rows[self.given.first.rows].row.numbers[i]
+        self.rows[self.first.rows].row.numbers[i]
     }
 
     /// The denominator of a row.
@@ -277,7 +278,7 @@ impl RevisedTable {
     {
         self.basic[row] = column;
         let done = pivot_rows(
-            &self.given,
+            &self.first,
             self.rows.as_mut_slice(),
             &mut self.pivot,
             self.entered.as_slice(),
@@ -295,8 +296,8 @@ impl RevisedTable {
             &mut self.open,
             self.rows[row].row.numbers.as_slice(),
         );
-        let last = self.given.first.rows;
-        self.least = least_negative(&self.given, &self.rows[last], &mut self.open);
+        let last = self.first.rows;
+        self.least = least_negative(&self.first, &self.rows[last], &mut self.open);
         done
     }
 
@@ -306,14 +307,12 @@ impl RevisedTable {
         ensures ok { table_of_revised self.new
             ≡ clear_objective ordered_fractions (shape_of_revised self.old) (table_of_revised self.old) }
     {
-        let last = self.given.first.rows;
+        let last = self.first.rows;
         clear_row(self.entered.as_mut_slice());
-        clear_row(self.given.own.as_mut_slice());
-        self.given.own_top = 0;
         self.to_visit.all_fit = false;
         put_row(self.rows.as_mut_slice(), last, self.entered.as_slice(), 1);
         self.open.fill();
-        self.least = least_negative(&self.given, &self.rows[last], &mut self.open);
+        self.least = least_negative(&self.first, &self.rows[last], &mut self.open);
     }
 
     /// Sets the objective row to that of the factor: the row in which it is basic, without its own cell; if it isn't
@@ -324,18 +323,15 @@ impl RevisedTable {
         ensures ok { OnSome result (table_of_revised self.new
             ≡ set_factor_objective ordered_fractions (shape_of_revised self.old) (table_of_revised self.old)) }
     {
-        let last = self.given.first.rows;
+        let last = self.first.rows;
         let row = row_with(self.basic.as_slice(), self.contacts);
         let under = factor_row(
-            &self.given,
+            &self.first,
             self.rows.as_slice(),
             self.entered.as_mut_slice(),
             self.contacts,
             row,
         )?;
-        clear_row(self.given.own.as_mut_slice());
-        self.given.own_top = 1;
-        set_only(self.given.own.as_mut_slice(), self.contacts, -1);
         self.to_visit.all_fit = false;
         put_row(
             self.rows.as_mut_slice(),
@@ -344,7 +340,7 @@ impl RevisedTable {
             under,
         );
         self.open.fill();
-        self.least = least_negative(&self.given, &self.rows[last], &mut self.open);
+        self.least = least_negative(&self.first, &self.rows[last], &mut self.open);
         Some(())
     }
 }

@@ -1,8 +1,7 @@
 //! A row of the table, and the pivot row.
 //!
-//! A `top` is an upper bound on the sizes of some numbers: `top` of a row is one of its artificial numbers, `whole_top`
-//! of its numbers in all columns, `own_top` of own cells, and `top` of the first rows of the sums of sizes of their
-//! columns.
+//! A `top` is an upper bound on the sizes of some numbers: `top` of a row is one of its multipliers, `whole_top` of its
+//! numbers in all columns and of its multipliers, and `top` of the first rows of the sums of sizes of their columns.
 
 use stack_rows::Row;
 

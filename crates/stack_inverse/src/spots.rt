@@ -1,19 +1,18 @@
 //! The cells of a row step, one by one.
 
-ghost use Rattle.std.specs.Prelude.{◌≡◌, suc, ◌<◌, true, pos, ◌*ℤ◌, ◌<ℤ◌, length, None, IfSome};
+ghost use Rattle.std.specs.Prelude.{◌≡◌, suc, true, pos, ◌*ℤ◌, ◌<ℤ◌, length, None, IfSome};
 ghost use Rattle.stack_algebra.proofs.Over.{over};
 ghost use Rattle.stack_algebra.proofs.OrderedFractions.{ordered_fractions};
 ghost use Rattle.stack_rational.specs.Laws.{widest};
 ghost use Rattle.stack_rational.specs.TooWide.{is_too_wide};
 ghost use Rattle.stack_table.specs.Spots.{reduce_spot};
 ghost use Rattle.stack_bland.specs.Found.{TellsFound};
-ghost use Rattle.stack_inverse.specs.Columns.{row_cell};
-ghost use Rattle.stack_inverse.specs.RowsSeen.{seen_of, number_in_row, cell_in_row, columns_of};
+ghost use Rattle.stack_inverse.specs.Columns.{multipliers, cell_with};
+ghost use Rattle.stack_inverse.specs.RowsSeen.{columns_of};
 ghost use Rattle.stack_inverse.specs.CellSteps.{TellsCell, TellsStep};
 
-use crate::given::Given;
-use crate::making::{number_of, row_number};
-use crate::row::TableRow;
+use crate::first::First;
+use crate::making::row_number;
 use stack_bland::Found;
 use stack_rational::{Exact, Frac, over};
 use stack_rows::{Cells, Factors, step_fits};
@@ -119,44 +118,27 @@ fn step_spot(s: &RowStep, own: i128, pivot: i128) -> Option<Option<Step>>
     }
 }
 
-/// The number of row i in any column, the right side last. Likely gives up if a sum of products doesn't fit.
-fn number_in(given: &Given, row: &TableRow, i: usize, j: usize) -> Option<i128>
-    requires width { length row.now.row.numbers.items ≡ suc given.now.first.rows }
-    requires column_in { j < columns_of given.now }
-    ensures { IfSome result (λ r. r ≡ number_in_row given.now (seen_of row.now) i j) }
-{
-    let count = given.first.columns.len();
-    if j < count {
-        return number_of(given, row, i, j);
-    }
-    Some(row.row.numbers[j - count])
-}
-
 /// The first step of row i that is too wide, if there is one. Likely gives up if a number of either row doesn't fit.
 pub fn row_spot(
-    given: &Given,
-    row: &TableRow,
+    first: &First,
+    row: &[i128],
     pivot: &[i128],
     s: &RowStep,
     i: usize,
 ) -> Found<PivotWide>
-    requires width { length row.now.row.numbers.items ≡ suc given.now.first.rows }
-    requires pivot_width { length pivot.now ≡ suc given.now.first.rows }
-    requires under { s.now.under ≡ row.now.row.under }
-    ensures { TellsFound result (reduce_spot ordered_fractions (is_too_wide widest) (columns_of given.now)
-        (cell_in_row given.now (seen_of row.now) i)
-        (row_cell given.now.first.rows given.now.first.columns.items pivot.now s.now.pivot_under)
+    requires width { length row.now ≡ suc (multipliers first.now.rows) }
+    requires pivot_width { length pivot.now ≡ suc (multipliers first.now.rows) }
+    ensures { TellsFound result (reduce_spot ordered_fractions (is_too_wide widest) (columns_of first.now)
+        (cell_with first.now.rows first.now.columns.items row.now s.now.under)
+        (cell_with first.now.rows first.now.columns.items pivot.now s.now.pivot_under)
         (over s.now.number s.now.under) i) }
 {
-    let columns = match given.first.columns.len().checked_add(pivot.len()) {
+    let columns = match first.columns.len().checked_add(first.rows + 1) {
         Some(columns) => columns,
         None => return Found::GaveUp,
     };
     for j in 0..columns {
-        let numbers = (
-            number_in(given, row, i, j),
-            row_number(&given.first, pivot, j),
-        );
+        let numbers = (row_number(first, row, j), row_number(first, pivot, j));
         let step = match numbers {
             (Some(own), Some(other)) => step_spot(s, own, other),
             _ => return Found::GaveUp,

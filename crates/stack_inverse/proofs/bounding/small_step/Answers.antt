@@ -10,10 +10,9 @@ returns-clause-fits c =
     let q = c.args.pivot.now in
     let k = c.args.factors in
     let under : SFits w128 r.under = search rules in
-    small_fits f.rows f.columns.items r.numbers.items q.row.numbers.items r.under q.row.under k.times k.less f.top
-    c.args.own_top c.in_ok-own.own q.whole_top f.first
-    (rw (c.as_slice.ensures.value, to_z-of_z under) at c.in_ok-own.ensures) c.in_ok-step.ensures.small
-    (rw (c.unsigned_abs.ensures.value, to_z-of_z under) at c.in_ok-step.ensures.over)
+    small_fits f.rows f.columns.items r.numbers.items q.row.numbers.items r.under k.times k.less f.top
+    c.in_ok-own.own q.whole_top f.first (rw c.as_slice.ensures.value at c.in_ok-own.ensures)
+    c.in_ok-step.ensures.small (rw (c.unsigned_abs.ensures.value, to_z-of_z under) at c.in_ok-step.ensures.over)
 
 pub returns-clause-small : goal.returns-clause-small
 returns-clause-small c =
@@ -21,8 +20,6 @@ returns-clause-small c =
     let r = c.args.row.now in
     let q = c.args.pivot.now in
     let k = c.args.factors in
-    let under : SFits w128 r.under = search rules in
-    each_small f.rows f.columns.items r.numbers.items q.row.numbers.items r.under q.row.under k.times k.less f.top
-    c.args.own_top c.in_ok-own.own q.whole_top f.first
-    (rw (c.as_slice.ensures.value, to_z-of_z under) at c.in_ok-own.ensures) c.in_ok-step.ensures.small
-    c.requires.within
+    each_small f.rows f.columns.items r.numbers.items q.row.numbers.items r.under k.times k.less f.top
+    c.in_ok-own.own q.whole_top f.first (rw c.as_slice.ensures.value at c.in_ok-own.ensures)
+    c.in_ok-step.ensures.small c.requires.kept

@@ -5,32 +5,32 @@ use Rattle.std.proofs.lemmas.Bool.{cases_lt}
 use Rattle.stack_rational.proofs.Common.{w128, widest, ℕ_discrete}
 use Rattle.stack_rows.specs.RowForm.{number_at}
 use Rattle.stack_rows.proofs.Numbers.{at-set_same, at-set_other, done_more}
-use Rattle.stack_inverse.specs.declared.given.Given.{Given}
+use Rattle.stack_inverse.specs.declared.first.First.{First}
 use Rattle.stack_inverse.specs.declared.row.TableRow.{TableRow}
 use Rattle.stack_inverse.specs.Marks.{mark_in}
-use Rattle.stack_inverse.specs.Columns.{RowSeen, cells_at}
+use Rattle.stack_inverse.specs.Columns.{RowSeen, multipliers, cells_at}
 use Rattle.stack_inverse.specs.RowsSeen.{seen_at, number_in_row}
 use Rattle.stack_inverse.proofs.Made.{nothing_made}
 use Rattle.stack_inverse.proofs.PutRow.{seen_get, width_get}
 use Rattle.stack_inverse.proofs.making.enter_column.Goals as goal
 
 -- a row without a mark has 0 in the column
-bare : (p : Given) (rows : List TableRow) (words : List ℕ) (column k : ℕ) → column < length p.first.columns.items →
-    ((i : ℕ) → i < p.first.rows → mark_in words i ≡ 0 → AllByRecursion (λ x.
-    number_at (seen_at rows i).numbers x.row ≡ pos 0) (cells_at p.first.columns.items column)) → k < p.first.rows →
-    mark_in words k ≡ 0 → pos 0 ≡ number_in_row p (seen_at rows k) k column
-bare p rows words column k lt nothing l z = nothing_made p.first.rows p.first.columns.items p.own.items
-    (seen_at rows k).numbers (seen_at rows k).under k column l lt (p.first.first.rising column lt) (nothing k l z)
+bare : (f : First) (rows : List TableRow) (words : List ℕ) (column k : ℕ) → column < length f.columns.items →
+    ((i : ℕ) → i < f.rows → mark_in words i ≡ 0 → AllByRecursion (λ x.
+    number_at (seen_at rows i).numbers x.row ≡ pos 0) (cells_at f.columns.items column)) → k < f.rows →
+    mark_in words k ≡ 0 → pos 0 ≡ number_in_row f (seen_at rows k) column
+bare f rows words column k lt nothing l z = nothing_made f.rows f.columns.items (seen_at rows k).numbers column lt
+    (f.first.rising column lt) (nothing k l z)
 
 pub sized_number-requires-clause-width : goal.sized_number-requires-clause-width
-sized_number-requires-clause-width c = width_get c.args.given.now.first.rows c.args.rows.now c.loop-i.i
+sized_number-requires-clause-width c = width_get c.args.first.now.rows c.args.rows.now c.loop-i.i
     c.index-rows-i.result c.requires.height (omega (arith, c.loop-i-test.true, c.requires.height)) c.requires.widths
     c.index-rows-i.is
 
 pub loop-i-init : goal.loop-i-init
 loop-i-init c =
-    let p = c.args.given.now in
-    let m = p.first.rows in
+    let p = c.args.first.now in
+    let m = p.rows in
     let next = c.next-i.ensures in
     let marks = c.put.new.self.words.items in
     let clear = c.clear_row.ensures in
@@ -53,8 +53,8 @@ loop-i-init c =
 
 pub loop-i-preserved : goal.loop-i-preserved
 loop-i-preserved c =
-    let p = c.args.given.now in
-    let m = p.first.rows in
+    let p = c.args.first.now in
+    let m = p.rows in
     let rows = c.args.rows.now in
     let xs = c.loop-i.entered in
     let i = c.loop-i.i in
@@ -74,8 +74,8 @@ loop-i-preserved c =
     ) in
     let same : number_at (set xs i z) i ≡ number = at-set_same xs i z room ∙ to_z-of_z fits in
     let seen = seen_get rows i c.index-rows-i.result (search rules) c.index-rows-i.is in
-    let here : number_at (set xs i z) i ≡ number_in_row p (seen_at rows i) i c.args.column = same ∙ told.number
-    ∙ ap (λ (s : RowSeen). number_in_row p s i c.args.column) seen in
+    let here : number_at (set xs i z) i ≡ number_in_row p (seen_at rows i) c.args.column = same ∙ told.number
+    ∙ ap (λ (s : RowSeen). number_in_row p s c.args.column) seen in
     let stays : (k : ℕ) → k ≢ i → number_at (set xs i z) k ≡ number_at xs k = λ k n. at-set_other xs i k z n in
     let ahead : (k : ℕ) → i + 1 ≤ k → mark_in marks k ≡ 0 → (k ≢ m) × (mark_in c.args.marks.now.words.items k ≡ 0) =
     λ k l q. inv.ahead k (omega (arith, l)) (sym (c.note.ensures.others k (λ e. omega (arith, e, l))) ∙ q) in
@@ -85,7 +85,7 @@ loop-i-preserved c =
       long = c.note.ensures.long ∙ inv.long;
       within = next.within;
       numbers = λ k l. elim (cases_lt k (i + 1)) [
-        | inl b ↦ done_more (λ k n. n ≡ number_in_row p (seen_at rows k) k c.args.column) (number_at xs)
+        | inl b ↦ done_more (λ k n. n ≡ number_in_row p (seen_at rows k) c.args.column) (number_at xs)
             (number_at xs) (number_at (set xs i z)) i inv.numbers (λ _ _. refl) here stays k (omega (arith, b))
         | inr b ↦
             let a = ahead k b (next.none k b l) in
@@ -99,11 +99,11 @@ loop-i-preserved c =
         | inr b ↦ omega (arith, ap unsigned_abs (rest k b))
       ];
       right_fits = λ k l. elim (cases_lt k (i + 1)) [
-        | inl b ↦ done_more (λ k n. n ≢ pos 0 → unsigned_abs (number_at (seen_at rows k).numbers m)
+        | inl b ↦ done_more (λ k n. n ≢ pos 0 → unsigned_abs (number_at (seen_at rows k).numbers (multipliers m))
             ≤ unsigned_abs widest) (number_at xs) (number_at xs) (number_at (set xs i z)) i inv.right_fits
             (λ _ _. refl) (λ _. omega (
               arith,
-              ap (λ (s : RowSeen). unsigned_abs (number_at s.numbers m)) seen,
+              ap (λ (s : RowSeen). unsigned_abs (number_at s.numbers (multipliers m))) seen,
               told.right_fits,
             )) stays k (omega (arith, b))
         | inr b ↦ λ n. absurd (n (rest k b))

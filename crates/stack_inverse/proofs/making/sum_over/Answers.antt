@@ -22,5 +22,5 @@ loop-cell-preserved c =
       c.in_ok-sum.ensures,
     ) in
     let f = λ (x : Cell). number_at xs x.row *ℤ x.value in
-    one_more f c.args.cells.now k d before _ (to_z w128 (of_z w128 c.args.start) +ℤ sum_of f c.args.cells.now)
-    c.loop-cell-test.true here c.loop-cell.invariant
+    one_more f c.args.cells.now k d before _ (sum_of f c.args.cells.now) c.loop-cell-test.true here
+    c.loop-cell.invariant

@@ -1,7 +1,7 @@
 use Rattle.std.proofs.Common.{ap, ◌∙◌, ◌≤◌, unsigned_abs, arith, rules, SFits, to_z-of_z}
 use borrow.Author.Count.{below_more}
 use Rattle.stack_rational.proofs.Common.{w128}
-use Rattle.stack_inverse.specs.Columns.{row_number}
+use Rattle.stack_inverse.specs.Columns.{number_with}
 use Rattle.stack_inverse.proofs.making.top_in.Goals as goal
 
 pub loop-j-preserved : goal.loop-j-preserved
@@ -12,11 +12,11 @@ loop-j-preserved c =
     let fits : SFits w128 c.in_ok-row_number.field-0 = search rules in
     record {
       cells = λ k. omega (arith, i.cells k, more.own);
-      made = λ d. below_more (λ k. unsigned_abs (row_number f.rows f.columns.items c.args.row.now d k)
-          ≤ c.larger-top.result) c.loop-j.j (λ k l. omega (arith, i.made d k l, more.own)) (omega (
+      made = below_more (λ k. unsigned_abs (number_with f.rows f.columns.items c.args.row.now k)
+          ≤ c.larger-top.result) c.loop-j.j (λ k l. omega (arith, i.made k l, more.own)) (omega (
             arith,
             more.other,
             c.unsigned_abs.ensures.value,
-            ap unsigned_abs (to_z-of_z fits ∙ c.in_ok-row_number.ensures d),
+            ap unsigned_abs (to_z-of_z fits ∙ c.in_ok-row_number.ensures),
           ));
     }

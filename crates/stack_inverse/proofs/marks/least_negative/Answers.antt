@@ -9,16 +9,16 @@ use Rattle.stack_inverse.proofs.marks.least_negative.Goals as goal
 
 pub returns-then-number-lt0-clause-value : goal.returns-then-number-lt0-clause-value
 returns-then-number-lt0-clause-value c =
-    let f = number_in_row c.args.given.now (seen_of c.args.row.now) c.args.given.now.first.rows in
-    let columns = c.args.given.now.first.columns in
+    let f = number_in_row c.args.first.now (seen_of c.args.row.now) in
+    let columns = c.args.first.now.columns in
     sym (least_is (length columns.items) (λ k. is_negative_sign (sign_of (f k))) c.loop-j.j
     (omega (arith, c.loop-j-test.true, c.len-end.ensures, columns.ok.0)) (negative_is (f c.loop-j.j) (search rules))
     c.loop-j.invariant.none)
 
 pub loop-j-preserved : goal.loop-j-preserved
 loop-j-preserved c =
-    let f = number_in_row c.args.given.now (seen_of c.args.row.now) c.args.given.now.first.rows in
-    let columns = c.args.given.now.first.columns in
+    let f = number_in_row c.args.first.now (seen_of c.args.row.now) in
+    let columns = c.args.first.now.columns in
     let i = c.loop-j.invariant in
     let j = c.loop-j.j in
     let next = c.next-j-in-loop-j.ensures in
@@ -39,7 +39,7 @@ loop-j-preserved c =
 
 pub returns-clause-value : goal.returns-clause-value
 returns-clause-value c =
-    let f = number_in_row c.args.given.now (seen_of c.args.row.now) c.args.given.now.first.rows in
-    let columns = c.args.given.now.first.columns in
+    let f = number_in_row c.args.first.now (seen_of c.args.row.now) in
+    let columns = c.args.first.now.columns in
     sym (least_none (length columns.items) (λ k. is_negative_sign (sign_of (f k)))
     (λ k l. c.loop-j.invariant.none k (omega (arith, l, c.loop-j-test.false, c.len-end.ensures, columns.ok.0))))

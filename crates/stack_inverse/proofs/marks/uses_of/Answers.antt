@@ -1,7 +1,7 @@
 use Rattle.std.proofs.Common.{◌<◌, sym, ap, subst₂, ℕ, List, length, arith}
 use Rattle.std.specs.List.{AllByRecursion}
 use Rattle.stack_inverse.specs.declared.columns.FirstColumn.{FirstColumn}
-use Rattle.stack_inverse.specs.Columns.{cells_at}
+use Rattle.stack_inverse.specs.Columns.{multipliers, cells_at}
 use Rattle.stack_inverse.proofs.Entered.{rises_of, cells_below}
 use Rattle.stack_inverse.proofs.marks.uses_of.Goals as goal
 
@@ -18,5 +18,5 @@ mark_uses-requires-clause-rows c = λ j l.
       c.loop.auto.counter-end,
     ))
     (sym columns)
-    (cells_below f.rows 0 (cells_at f.columns.items j)
-    (rises_of f.rows 0 _ (f.first.rising j (omega (arith, l, ap length columns)))))
+    (cells_below (multipliers f.rows) 0 (cells_at f.columns.items j)
+    (rises_of (multipliers f.rows) 0 _ (f.first.rising j (omega (arith, l, ap length columns)))))

@@ -1,6 +1,7 @@
 use Rattle.std.proofs.Common.{◌≡◌, ◌≢◌, ℕ, ◌<◌, ◌≤◌, ◌-◌, length, true}
 use Rattle.stack_rational.proofs.Common.{widest}
-use Rattle.stack_inverse.specs.RowBlock.{IsReducedRow, AreFitting}
+use Rattle.stack_inverse.specs.RowBlock.{IsReducedRow, AreFitting, KeepsZeros}
+use Rattle.stack_rows.specs.RowForm.{number_at}
 use Rattle.stack_inverse.specs.Columns.{HaveWidths}
 use Rattle.stack_inverse.specs.RowsSeen.{seen_at, cells_of_rows, cell_in_row, columns_of, pivot_cell}
 use Rattle.stack_inverse.proofs.pivoting.reduce_others.Given as goal
@@ -9,12 +10,14 @@ use Rattle.stack_inverse.proofs.pivoting.reduce_others.Given as goal
 abbrev pub invariant-loop-i : goal.invariant-loop-i
 invariant-loop-i l = record {
   within : l.i ≤ length l.rows;
-  widths : HaveWidths l.given.first.rows (seen_at l.rows);
+  widths : HaveWidths l.first.rows (seen_at l.rows);
   left : (k : ℕ) → l.i ≤ k → seen_at l.rows k ≡ seen_at l.fn.rows k;
-  fitting : AreFitting widest (cells_of_rows l.given l.rows) (seen_at l.rows);
+  fitting : AreFitting widest (cells_of_rows l.first l.rows) (seen_at l.rows);
   fit : (k : ℕ) → k < l.i → k ≢ l.row → (seen_at l.rows k).fits ≡ true;
-  done : (k : ℕ) → k < l.i → k ≢ l.row → IsReducedRow widest (columns_of l.given) (cells_of_rows l.given l.fn.rows k)
-      (pivot_cell l.given l.pivot) k l.column (cell_in_row l.given (seen_at l.rows k) k);
+  done : (k : ℕ) → k < l.i → k ≢ l.row → IsReducedRow widest (columns_of l.first) (cells_of_rows l.first l.fn.rows k)
+      (pivot_cell l.first l.pivot) k l.column (cell_in_row l.first (seen_at l.rows k));
+  zeros : (k : ℕ) → k < l.i → k ≢ l.row → KeepsZeros (seen_at l.fn.rows k).numbers l.pivot.row.numbers.items
+      (number_at l.entered k) (seen_at l.rows k).numbers;
 }
 
 abbrev pub decreases-loop-i : goal.decreases-loop-i

@@ -1,10 +1,9 @@
-use Rattle.std.proofs.Common.{◌≡◌, sym, suc, ◌+◌, length, Option, Some, None, arith, rules, SFits, to_z-of_z}
+use Rattle.std.proofs.Common.{◌≡◌, refl, sym, suc, ◌+◌, length, Option, Some, None, arith, rules, SFits, to_z-of_z}
 use Rattle.stack_rational.proofs.Common.{w128, first_found, first_more, first-none, first_all-none, over}
 use Rattle.stack_table.specs.declared.types.Step.{Step}
 use Rattle.stack_table.specs.Spots.{reduce_item}
 use Rattle.stack_rational.proofs.Common.{ordered_fractions, is_too_wide, widest}
-use Rattle.stack_inverse.specs.Columns.{revised_own, number_with, row_number, row_cell}
-use Rattle.stack_inverse.specs.RowsSeen.{seen_of, cell_in_row}
+use Rattle.stack_inverse.specs.Columns.{number_with, cell_with}
 use Rattle.stack_inverse.specs.CellSteps.{spot_at}
 use Rattle.stack_inverse.proofs.CellSteps.{step_told}
 use Rattle.stack_inverse.proofs.spots.row_spot.Goals as goal
@@ -12,20 +11,19 @@ use Rattle.stack_inverse.proofs.spots.row_spot.Goals.{After-step_spot-step}
 
 -- what is told of the numbers of the column
 told : (c : After-step_spot-step) → (o : Option Step) → c.step_spot-step.result ≡ Some o →
-    reduce_item ordered_fractions (is_too_wide widest) (cell_in_row c.args.given.now (seen_of c.args.row.now) c.args.i)
-    (row_cell c.args.given.now.first.rows c.args.given.now.first.columns.items c.args.pivot.now
-    c.args.s.now.pivot_under)
+    reduce_item ordered_fractions (is_too_wide widest)
+    (cell_with c.args.first.now.rows c.args.first.now.columns.items c.args.row.now c.args.s.now.under)
+    (cell_with c.args.first.now.rows c.args.first.now.columns.items c.args.pivot.now c.args.s.now.pivot_under)
     (over c.args.s.now.number c.args.s.now.under) c.args.i c.loop-j.j ≡ spot_at c.args.i c.loop-j.j o
 told c o e =
-    let f = c.args.given.now.first in
-    let row = c.args.row.now.row in
+    let f = c.args.first.now in
     let s = c.args.s.now in
     let own : SFits w128 c.in-Some-Some.own = search rules in
     let other : SFits w128 c.in-Some-Some.other = search rules in
-    step_told (number_with f.rows f.columns.items (revised_own f.rows c.args.given.now.own.items c.args.i)
-    row.numbers.items row.under) (row_number f.rows f.columns.items c.args.pivot.now s.pivot_under) row.under
-    s.pivot_under (over s.number s.under) c.args.i c.loop-j.j o (rw c.in-Some-Some.is-0 at c.number_in.ensures)
-    ((rw c.in-Some-Some.is-1 at c.row_number.ensures) s.pivot_under) c.requires.under
+    step_told (number_with f.rows f.columns.items c.args.row.now)
+    (number_with f.rows f.columns.items c.args.pivot.now) s.under
+    s.pivot_under (over s.number s.under) c.args.i c.loop-j.j o (rw c.in-Some-Some.is-0 at c.row_number.ensures)
+    (rw c.in-Some-Some.is-1 at c.row_number-in-loop-j.ensures) refl
     (rw (e, to_z-of_z own, to_z-of_z other) at c.step_spot-step.ensures)
 
 pub loop-j-preserved : goal.loop-j-preserved
@@ -34,13 +32,13 @@ loop-j-preserved c = first_more c.loop-j.j _ c.loop-j.invariant (told
 
 pub returns-in-Some-Some-step : goal.returns-in-Some-Some-step
 returns-in-Some-Some-step c =
-    let f = c.args.given.now.first in
+    let f = c.args.first.now in
     sym (first_found (suc (length f.columns.items + f.rows)) c.loop-j.j _ _ (search rules) c.loop-j.invariant
     (told (goal.at.returns-in-Some-Some-step c).After-step_spot-step (Some c.in-Some-Some-step.step) (search rules)))
 
 pub returns : goal.returns
 returns c =
-    let f = c.args.given.now.first in
+    let f = c.args.first.now in
     sym (first_all-none (suc (length f.columns.items + f.rows)) _ (λ k l. first-none c.loop-j.j _ c.loop-j.invariant k
     (omega (
       arith,

@@ -1,7 +1,7 @@
 use Rattle.std.proofs.Common.{◌≡◌, sym, ap, ◌∙◌, ◌+◌, suc, length, arith, rules, SFits, to_z-of_z}
 use Rattle.stack_rational.proofs.Common.{w128}
 use Rattle.stack_table.specs.Table.{plain}
-use Rattle.stack_inverse.specs.Columns.{RowSeen, revised_own}
+use Rattle.stack_inverse.specs.Columns.{RowSeen, multipliers}
 use Rattle.stack_inverse.specs.RowsSeen.{seen_at}
 use Rattle.stack_inverse.specs.Seen.{shape_of_revised}
 use Rattle.stack_rows.specs.RowForm.{number_at}
@@ -13,24 +13,24 @@ use Rattle.stack_inverse.proofs.revised_table.RevisedTable.multiplier.Goals as g
 pub index-requires-2 : goal.index-requires-2
 index-requires-2 c =
     let s = c.args.self.now in
-    let m = s.given.first.rows in
+    let m = s.first.rows in
     let x = c.index.result.now in
-    let width : length x.row.numbers.items ≡ suc m = width_get m s.rows.items m x s.height (omega arith) s.widths
-    c.index.ensures in
+    let width : length x.row.numbers.items ≡ suc (multipliers m) = width_get m s.rows.items m x s.height (omega arith)
+    s.widths c.index.ensures in
     omega (arith, width, c.requires)
 
 pub returns : goal.returns
 returns c =
     let s = c.args.self.now in
-    let m = s.given.first.rows in
+    let m = s.first.rows in
     let i = c.args.i in
     let x = c.index.result.now in
     let y = c.index-2.result.now in
     let row = seen_at s.rows.items m in
-    let width : length x.row.numbers.items ≡ suc m = width_get m s.rows.items m x s.height (omega arith) s.widths
-    c.index.ensures in
+    let width : length x.row.numbers.items ≡ suc (multipliers m) = width_get m s.rows.items m x s.height (omega arith)
+    s.widths c.index.ensures in
     let fits : SFits w128 y = search rules in
     to_z-of_z fits ∙ sym (at-index x.row.numbers.items i y (omega (arith, width, c.requires)) c.index-2.ensures)
     ∙ ap (λ (r : RowSeen). number_at r.numbers i) (seen_get s.rows.items m x (omega (arith, s.height)) c.index.ensures)
-    ∙ sym (artificial_is m s.given.first.columns.items (revised_own m s.given.own.items m) row.numbers row.under
-    (plain (shape_of_revised s) + i) i (ap (λ n. n + i) (sym s.plain_count)) c.requires)
+    ∙ sym (artificial_is m s.first.columns.items row.numbers (plain (shape_of_revised s) + i) i
+    (ap (λ n. n + i) (sym s.plain_count)) c.requires)

@@ -7,6 +7,6 @@ use Rattle.stack_inverse.proofs.revised_table.RevisedTable.number.Goals as goal
 pub returns : goal.returns
 returns c =
     let s = c.args.self.now in
-    subst (λ (r : RowSeen). IfSome c.number_of.result (λ n. n ≡ number_in_row s.given r c.args.i c.args.j))
+    subst (λ (r : RowSeen). IfSome c.number_of.result (λ n. n ≡ number_in_row s.first r c.args.j))
     (seen_get s.rows.items c.args.i c.index.result.now (omega (arith, c.requires.i_in, s.height)) c.index.ensures)
     c.number_of.ensures

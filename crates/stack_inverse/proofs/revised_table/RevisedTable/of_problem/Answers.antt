@@ -1,4 +1,4 @@
-use Rattle.std.proofs.Common.{◌≡◌, ◌<◌, ◌+◌, sym, ap, subst, ◌∙◌, ℕ, suc, ◌/◌, List, length, cond, false, true, arith}
+use Rattle.std.proofs.Common.{◌≡◌, ◌+◌, sym, ap, subst, ◌∙◌, ℕ, suc, ◌/◌, List, length, cond, false, true, arith}
 use Rattle.std.proofs.Common.{ℤ, subst₂}
 use Rattle.stack_rational.proofs.Common.{with_items, ordered_fractions, changed}
 use Rattle.stack_table.specs.Table.{plain}
@@ -6,7 +6,7 @@ use Rattle.stack_table.specs.Block.{shape_of}
 use Rattle.stack_table.specs.Lent.{problem_of}
 use Rattle.stack_table.specs.WrittenTable.{first_row, first_objective}
 use Rattle.stack_inverse.specs.declared.row.TableRow.{TableRow}
-use Rattle.stack_inverse.specs.Columns.{HaveWidths, cells_at, rises, revised_cell}
+use Rattle.stack_inverse.specs.Columns.{multipliers, AreFactorCosts, HaveWidths, revised_cell}
 use Rattle.stack_inverse.specs.RowsSeen.{seen_at}
 use Rattle.stack_inverse.specs.FirstTable.{AreFilled}
 use Rattle.stack_inverse.specs.Columns.{RowSeen}
@@ -16,26 +16,30 @@ use Rattle.stack_bland.specs.Found.{TellsFound}
 use Rattle.stack_inverse.proofs.PutRow.{written, written_long, seen_past, seen_get}
 use Rattle.stack_inverse.proofs.PlacesKept.{first_told}
 use Rattle.stack_inverse.proofs.FirstTables.{first_cell, first_basics, factor_is}
+use Rattle.stack_inverse.proofs.TurnedColumns.{factor_costs}
 use Rattle.stack_inverse.proofs.revised_table.RevisedTable.of_problem.Goals as goal
 
 pub invariant_of-result : goal.invariant_of-result
 invariant_of-result c =
     let P = c.args.p.now in
-    let G = c.in_ok-given.given in
+    let F = c.in_ok-first.first in
+    let C = F.columns.items in
     let rows = c.in_ok-rows.rows in
     let new = c.fill.new.rows in
     let kept = c.as_mut_slice.ensures.value in
     let is = sym (written rows new kept c.fill.auto.rows) in
-    let tall : P.rows + 1 ≡ suc G.first.rows = omega (arith, c.in_ok-given.ensures.rows) in
-    let long : length c.as_slice.result.now ≡ G.first.rows =
-    ap length c.as_slice.ensures.value ∙ c.requires.right_long ∙ sym c.in_ok-given.ensures.rows in
-    let count : length G.first.columns.items ≡ plain (shape_of G.first.rows c.len-3.result c.is_some.result) =
-    c.in_ok-given.ensures.long ∙ sym (λ z. (c.len-3.ensures ∙ P.contact.ok.0) z
+    let few : F.rows ≡ P.rows = c.in_ok-first.ensures.rows in
+    let tall : P.rows + 1 ≡ suc F.rows = omega (arith, few) in
+    let wide : c.width_of-width.result ≡ suc (multipliers F.rows) =
+    c.width_of-width.ensures ∙ ap (λ n. suc (multipliers n)) (sym few) in
+    let long : length c.as_slice.result.now ≡ F.rows =
+    ap length c.as_slice.ensures.value ∙ c.requires.right_long ∙ sym few in
+    let contacts : c.len-3.result ≡ length P.contact.items = c.len-3.ensures ∙ P.contact.ok.0 in
+    let count : length C ≡ plain (shape_of F.rows c.len-3.result c.is_some.result) =
+    c.in_ok-first.ensures.long ∙ sym (λ z. contacts z
     + (ap (λ b. cond b 1 0) c.is_some.ensures ∙ factor_is P.factor) z) in
-    let few : G.first.rows ≡ P.rows = c.in_ok-given.ensures.rows in
-    let height = written_long rows new kept c.fill.auto.rows ∙ c.in_ok-rows.ensures.height ∙ c.width_of-width.ensures
-    ∙ ap suc (sym few) in
-    let last : seen_of c.index.result.now ≡ seen_at (with_items rows new).items G.first.rows =
+    let height = written_long rows new kept c.fill.auto.rows ∙ c.in_ok-rows.ensures.height ∙ tall in
+    let last : seen_of c.index.result.now ≡ seen_at (with_items rows new).items F.rows =
     seen_get (with_items rows new).items P.rows c.index.result.now (omega (arith, height, few)) c.index.ensures
     ∙ ap (seen_at (with_items rows new).items) (sym few) in
     let filled : AreFilled P.rows P.right.items (seen_at new) =
@@ -43,35 +47,37 @@ invariant_of-result c =
     (ap length c.as_slice.ensures.value ∙ c.requires.right_long) c.as_slice.ensures.value c.in_ok-fill.ensures.filled in
     record {
       plain_count = count;
+      costs = subst₂ (λ m n. AreFactorCosts m C n) (sym few) (sym contacts)
+          (factor_costs P c.requires C c.in_ok-first.ensures.columns);
       height = height;
       widths = subst₂ (λ (m : ℕ) (rs : List TableRow). HaveWidths m (seen_at rs)) long is c.in_ok-fill.ensures.widths;
       fitting = λ i e. let b : false ≡ true = sym (subst (λ (rs : List TableRow). (i : ℕ) → (seen_at rs i).fits ≡ false)
           is c.in_ok-fill.ensures.unfit i) ∙ e in absurd cc;
-      room = c.in_ok-zeros.ensures.width ∙ c.width_of-width.ensures ∙ ap suc (sym c.in_ok-given.ensures.rows);
+      room = c.in_ok-zeros.ensures.width ∙ wide;
       one_number = written_long c.in_ok-entered.entered c.fill.new.numbers c.as_mut_slice-2.ensures.value
-          c.fill.auto.numbers ∙ c.in_ok-entered.ensures ∙ tall;
-      places_long = c.in_ok-places.ensures.long ∙ sym few;
+          c.fill.auto.numbers ∙ c.in_ok-entered.ensures ∙ omega (arith, few);
+      places_long = c.in_ok-places.ensures.long ∙ omega (arith, few);
       places_wide = subst (λ w. HaveWords c.in_ok-places.places.items (suc (w / 64))) tall c.in_ok-places.ensures.wide;
       told = subst₂ (λ (m : ℕ) (rs : List TableRow). ArePlaces c.in_ok-places.places.items m (seen_at rs)) (sym few) is
           (first_told P.rows P.right.items (seen_at new) c.in_ok-places.places.items filled
-          c.in_ok-places.ensures.diagonal);
+          (λ r l. c.in_ok-places.ensures.diagonal r (omega (arith, l))));
       uses_long = c.in_ok-uses.ensures.long;
       uses_wide = c.in_ok-uses.ensures.wide;
       used = c.in_ok-uses.ensures.uses;
       each_fits = λ e. let b : false ≡ true = e in absurd cc;
       touched_long = c.in_ok-touched.ensures ∙ ap (λ w. suc (w / 64)) tall;
       open_long = c.least_negative-least.ensures.long ∙ c.fill-2.ensures.long ∙ c.in_ok-open.ensures
-          ∙ ap (λ w. suc (w / 64)) (c.len-2.ensures ∙ G.first.columns.ok.0);
-      clean = subst (λ (x : RowSeen). AreClean (number_in_row G x G.first.rows) (length G.first.columns.items)
+          ∙ ap (λ w. suc (w / 64)) (c.len-2.ensures ∙ F.columns.ok.0);
+      clean = subst (λ (x : RowSeen). AreClean (number_in_row F x) (length C)
           c.least_negative-least.new.marks.words.items) last c.least_negative-least.ensures.clean;
-      found = subst (λ (x : RowSeen). TellsFound c.least_negative-least.result (least_negative (number_in_row G x
-          G.first.rows) (length G.first.columns.items))) last c.least_negative-least.ensures.value;
+      found = subst (λ (x : RowSeen). TellsFound c.least_negative-least.result (least_negative (number_in_row F x)
+          (length C))) last c.least_negative-least.ensures.value;
       found_below = c.least_negative-least.ensures.below;
-      basics = c.in_ok-basic.ensures.long ∙ sym c.in_ok-given.ensures.rows;
+      basics = c.in_ok-basic.ensures.long ∙ sym few;
       basics_in = λ i l. omega (
         arith,
-        c.in_ok-basic.ensures.each i (omega (arith, l, c.in_ok-given.ensures.rows)),
-        c.len.ensures ∙ G.first.columns.ok.0 ∙ count,
+        c.in_ok-basic.ensures.each i (omega (arith, l, few)),
+        c.len.ensures ∙ F.columns.ok.0 ∙ count,
         l,
       );
     }
@@ -79,27 +85,23 @@ invariant_of-result c =
 pub returns-clause-ok : goal.returns-clause-ok
 returns-clause-ok c =
     let P = c.args.p.now in
-    let G = c.in_ok-given.given in
-    let C = G.first.columns.items in
+    let F = c.in_ok-first.first in
+    let C = F.columns.items in
     let rows = c.in_ok-rows.rows in
     let new = c.fill.new.rows in
-    let same = c.fill.auto.rows ∙ ap length c.as_mut_slice.ensures.value in
+    let same = c.fill.auto.rows ∙ ap length c.as_mut_slice.ensures.value ∙ c.in_ok-rows.ensures.height in
     let is = written rows new c.as_mut_slice.ensures.value c.fill.auto.rows in
-    let few : G.first.rows ≡ P.rows = c.in_ok-given.ensures.rows in
-    let rising : (j : ℕ) → j < length C → rises P.rows 0 (cells_at C j) ≡ true =
-    λ j l. subst (λ m. rises m 0 (cells_at C j) ≡ true) few (G.first.first.rising j l) in
+    let few : F.rows ≡ P.rows = c.in_ok-first.ensures.rows in
     let filled : AreFilled P.rows P.right.items (seen_at new) =
     subst₂ (λ (m : ℕ) (right : List ℤ). AreFilled m right (seen_at new))
     (ap length c.as_slice.ensures.value ∙ c.requires.right_long) c.as_slice.ensures.value c.in_ok-fill.ensures.filled in
-    let cells : (i j : ℕ) → revised_cell G.first.rows C G.own.items (seen_at (with_items rows new).items) i j
+    let cells : (i j : ℕ) → revised_cell F.rows C (seen_at (with_items rows new).items) i j
     ≡ changed (first_row ordered_fractions (problem_of P)) P.rows
     (first_objective ordered_fractions (problem_of P)) i j =
-    λ i j. (λ z. revised_cell (few z) C G.own.items (seen_at (is z)) i j)
-    ∙ first_cell P c.requires C G.own.items (seen_at new) c.in_ok-given.ensures.long c.in_ok-given.ensures.turned
-    rising c.in_ok-given.ensures.cells
-    (λ k l. seen_past new (suc P.rows) k (same ∙ c.in_ok-rows.ensures.height ∙ c.width_of-width.ensures)
-    (omega (arith, l))) filled i j in
+    λ i j. (λ z. revised_cell (few z) C (seen_at (is z)) i j)
+    ∙ first_cell P c.requires C (seen_at new) c.in_ok-first.ensures.long c.in_ok-first.ensures.columns
+    (λ k l. seen_past new (suc P.rows) k (omega (arith, same)) (omega (arith, l))) filled i j in
     let basics = first_basics P c.in_ok-basic.basic.items c.in_ok-basic.ensures.long
     (λ i l. c.in_ok-basic.ensures.each i l
-    ∙ ap (λ n. n + i) (c.len.ensures ∙ G.first.columns.ok.0 ∙ c.in_ok-given.ensures.long)) in
+    ∙ ap (λ n. n + i) (c.len.ensures ∙ F.columns.ok.0 ∙ c.in_ok-first.ensures.long)) in
     λ z. record { cell = λ i j. cells i j z; basic = λ i. basics i z }

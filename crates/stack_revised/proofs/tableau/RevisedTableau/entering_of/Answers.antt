@@ -10,6 +10,6 @@ use Rattle.stack_revised.proofs.tableau.RevisedTableau.entering_of.Goals as goal
 pub returns-clause-value : goal.returns-clause-value
 returns-clause-value c =
     let t = c.args.self.now.table in
-    let r = t.given.first.rows in
+    let r = t.first.rows in
     subst (TellsFound c.entering.result) (sym (λ z. least c.args.among (λ j. is_negative_sign (cell_sign
     (number_in t r j) (under_in t r) (under_positive t.rows.items r) z)))) c.entering.ensures.value

@@ -11,7 +11,7 @@ use Rattle.stack_revised.proofs.tableau.RevisedTableau.falls_short.Goals as goal
 pub returns : goal.returns
 returns c =
     let t = c.args.self.now.table in
-    let m = t.given.first.rows in
+    let m = t.first.rows in
     let last = columns (shape_of_revised t) in
     let fits : SFits w128 c.right.result = search rules in
     negative_test _ ∙ ap (λ z. is_negative_sign (sign_of z)) (to_z-of_z fits ∙ c.right.ensures

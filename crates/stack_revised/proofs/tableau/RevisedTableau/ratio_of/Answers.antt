@@ -5,7 +5,6 @@ use Rattle.stack_table.specs.Table.{columns}
 use Rattle.stack_bland.specs.Choice.{is_plus}
 use Rattle.stack_rows.specs.RowForm.{number_at}
 use Rattle.stack_rows.proofs.RatioSigns.{cell_sign}
-use Rattle.stack_inverse.specs.Columns.{revised_own}
 use Rattle.stack_inverse.specs.RowsSeen.{seen_at}
 use Rattle.stack_inverse.specs.Seen.{shape_of_revised, number_in, under_in}
 use Rattle.stack_inverse.proofs.PutRow.{under_positive}
@@ -28,7 +27,7 @@ returns-then-cell-le0 c =
 pub returns : goal.returns
 returns c =
     let t = c.args.self.now.table in
-    let m = t.given.first.rows in
+    let m = t.first.rows in
     let i = c.args.i in
     let k = c.args._column in
     let in_rows : i ≤ m = omega (arith, c.requires.i_in) in
@@ -42,8 +41,8 @@ returns c =
     is_ratio (number_in t) (under_in t) (under_positive t.rows.items) (λ i. get_or t.basic.items i 0)
     (shape_of_revised t) k i _ _ (to_z-of_z right ∙ c.right-right.ensures) (to_z-of_z cell ∙ is)
     (subst (λ z. pos 0 ≺ z) is high)
-    (subst (λ z. unsigned_abs z ≤ unsigned_abs widest) (sym (right_is m t.given.first.columns.items
-    (revised_own m t.given.own.items i) row.numbers row.under (columns (shape_of_revised t)) (ap (λ n. n + m)
-    (sym t.plain_count)))) (c.requires.at_hand.right_fits i in_rows some))
+    (subst (λ z. unsigned_abs z ≤ unsigned_abs widest) (sym (right_is m t.first.columns.items row.numbers
+    (columns (shape_of_revised t)) (ap (λ n. n + m) (sym t.plain_count))))
+    (c.requires.at_hand.right_fits i in_rows some))
     (subst (λ z. unsigned_abs z ≤ unsigned_abs widest) (sym c.entered-cell.ensures ∙ is)
     (c.requires.at_hand.fit i in_rows))

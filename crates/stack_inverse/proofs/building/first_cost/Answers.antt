@@ -3,7 +3,7 @@ use Rattle.stack_rational.proofs.Common.{w128}
 use Rattle.stack_inverse.specs.declared.columns.Cell.{Cell}
 use Rattle.stack_inverse.specs.FirstTable.{less_cells}
 use Rattle.stack_inverse.proofs.FirstSteps.{less_more}
-use Rattle.stack_inverse.proofs.building.less_cells.Goals as goal
+use Rattle.stack_inverse.proofs.building.first_cost.Goals as goal
 
 pub loop-cell-preserved : goal.loop-cell-preserved
 loop-cell-preserved c =
