@@ -13,7 +13,7 @@ from masonry.lp.short_certificates import least
 
 
 def area(rows: Sequence[Sequence[int]]) -> int:
-    """The area that two vectors in the plane span: 1 of a basis of all whole points, 2 of every second one."""
+    """The area that two vectors span: 1 if they are a basis of all whole points, 2 if of every second one."""
     (a, b), (c, d) = rows
     return abs(a * d - b * c)
 
@@ -83,8 +83,8 @@ class Packed(unittest.TestCase):
     """Numbers of 64 bits in one."""
 
     def test_places(self) -> None:
-        for numbers, whole in ([1], 1), ([0, 1], 2**64), ([-1, 1], 2**64 - 1), ([2, -3], 2 - 3 * 2**64), ([], 0):
-            self.assertEqual(packed(numbers), whole)
+        self.assertEqual((packed([1]), packed([0, 1]), packed([-1, 1])), (1, 2**64, 2**64 - 1))
+        self.assertEqual(packed([2, -3]), 2 - 3 * 2**64)
 
     def test_sums_are_those_of_the_numbers(self) -> None:
         u, v = [2**62 - 1, -5, 0, 7], [-2**62, 4, -1, 2**61]
