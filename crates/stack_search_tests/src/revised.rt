@@ -65,10 +65,17 @@ const APART: Numbers = Numbers {
     right: &[WIDER, WIDER],
 };
 
+/// Here it takes n - 1 times 1/n and n - 1 times 8: that fits, though the bound of the two rows doesn't.
+const CLOSE: Numbers = Numbers {
+    contact: &[&[GREAT, GREAT - 1], &[1, 1]],
+    factor: None,
+    right: &[8 * GREAT, 8 * GREAT - 8],
+};
+
 const LARGE: i128 = (1 << 63) - 1;
 
-/// Here it takes n - 1 times 1/n and n - 1 times 1: that fits, though the bound of the two rows doesn't.
-const CLOSE: Numbers = Numbers {
+/// The sum of the first column doesn't fit 64 bits.
+const SUMMED: Numbers = Numbers {
     contact: &[&[LARGE, LARGE - 1], &[1, 1]],
     factor: None,
     right: &[LARGE, LARGE - 1],
@@ -140,7 +147,8 @@ const ENDS: &[Case] = &[
     },
 ];
 
-/// Wide numbers are taken at 128 bits, a refused run has one place, and a row whose bound doesn't fit goes on.
+/// Wide numbers are taken at 128 bits, a refused run has one place, a row whose bound doesn't fit goes on, and a table
+/// with too great a sum is given up.
 const WIDE_ENDS: &[Case] = &[
     Case {
         numbers: WIDE,
@@ -167,6 +175,11 @@ const WIDE_ENDS: &[Case] = &[
         numbers: CLOSE,
         budget: 2,
         told: Ok(EndKind::Feasible),
+    },
+    Case {
+        numbers: SUMMED,
+        budget: 2,
+        told: Err(RevisedStop::Unsettled),
     },
 ];
 
@@ -196,5 +209,5 @@ fn runs_end_as_worked_by_hand(rt: HostRuntime) {
         held(alloc, ENDS),
         held(alloc, WIDE_ENDS),
     ];
-    assert!(rt; found == [4, 6, 4]);
+    assert!(rt; found == [4, 6, 5]);
 }
