@@ -185,7 +185,7 @@ def beds(model: Model, table: str, water: Water, foot: bool) -> Iterator[tuple[W
         yield in_bed(water, ends, foot_of(lowest))
     for ends in found:
         if not foot and ends not in lowest:
-            yield in_bed(water, ends, face_to_face(model, ends))
+            yield in_bed(water, ends, face_to_face(model, ends, found))
 
 
 def in_bed(water: Water, ends: Sequence[Bearing], faces: tuple[Place, Place]) -> tuple[Wet, Wet]:
@@ -212,16 +212,22 @@ def foot_of(lowest: Sequence[Sequence[Bearing]]) -> tuple[Place, Place]:
     return min(places), max(places)
 
 
-def face_to_face(model: Model, ends: Sequence[Bearing]) -> tuple[Place, Place]:
-    """From where to where the free blocks reach along the line of a bed."""
+def face_to_face(model: Model, ends: Sequence[Bearing], beds: Sequence[Sequence[Bearing]]) -> tuple[Place, Place]:
+    """From where to where beds lie along the line of one, and free blocks across it. A step or a ledge on that line
+    isn't pressed: it lies open to the water."""
     (ax, ay), (bx, by) = ends[0].at, ends[1].at
     slope = Fraction(by - ay, bx - ax)
-    found = []
+
+    def above(place: Sequence[int]) -> Fraction:
+        return place[1] - ay - slope * (place[0] - ax)
+
+    found = [Fraction(end.at[0]) for bed in beds if not any(above(end.at) for end in bed) for end in bed]
     for block in model.free_blocks():
-        for one, two in edges(block):
-            here, there = (y - ay - slope * (x - ax) for x, y in (one, two))
-            if here * there < 0 or here == 0:
-                found.append(one[0] + (two[0] - one[0]) * here / (here - there) if here else Fraction(one[0]))
+        if min(map(above, block.corners)) < 0 < max(map(above, block.corners)):
+            for one, two in edges(block):
+                here, there = above(one), above(two)
+                if here * there < 0 or here == 0:
+                    found.append(one[0] + (two[0] - one[0]) * here / (here - there) if here else Fraction(one[0]))
     low, high = min(found), max(found)
     return (low, ay + slope * (low - ax)), (high, ay + slope * (high - ax))
 

@@ -94,6 +94,16 @@ class Water(Asked):
         lifts = [sum(load.force[1] for load in model.loads if load.block == name) / times for name in ("foot", "head")]
         self.assertEqual(lifts, [2, 2])
 
+    def test_a_bed_behind_a_step_or_a_ledge(self) -> None:
+        # The bed is 2 wide and 2 below the surface, from the end of the step or the ledge on: it lifts with 2*2/2, and
+        # the ledge with 2*1 besides. On the foot act 4*4/2 or 4*2/2 from below, less the same 2, and 4 on the step.
+        for foot, head, up in (box("foot", 0, 0, 4, 2), box("head", 2, 2, 4, 4), [2, 2]), \
+                              (box("foot", 1, 0, 3, 2), box("head", 0, 2, 3, 4), [2, 4]):
+            model = self.wetted(wall(foot, head), "4", "beds")[0]
+            times = model.materials[0].weight
+            self.assertEqual([sum(load.force[1] for load in model.loads if load.block == name) / times
+                              for name in ("foot", "head")], up)
+
     def test_behind_a_bank(self) -> None:
         # A bank 1 high stands beside the post. Water 3 deep fills the ditch between them: it pushes with 3^2/2, and
         # with 2^2/2 if the bank lies at the post. A bank of 4 dams the water. In water of 8 a portal of 4 and 2 takes
