@@ -55,15 +55,15 @@ that. It presses square on each edge of a free block that no body hides on that 
 under ledges. A body under the surface doesn't hide what lies behind it, if water comes down between them. **An opening
 that bodies close to both sides stays dry**, as a culvert: a line `dry below` names the free blocks over it. If water
 fills it too, as under an arch in a flood, don't lay the water: it would hold the arch down. Draw what stands in it
-lighter by the weight of the water, and in an earthquake list its uplift and its push yourself. With `foot`
-it also presses in the joints on fixed bodies, with `beds` in all beds: upwards on the block above, downwards on that
-below. There the head falls evenly along x, from one end of the course to the other, where steps and ledges beside it
-lie open, and under the foot from its left end to its right end, also if it slants, curves or has steps. At both ends it
-is that of the water, or the height of the bed if that is higher. This is for beds that are pressed from end to end: if one opens, water stands in the open
-part with its full pressure, and the structure holds less. In a model with a sway `quake N D` adds the push of the water
-at N/D of it, after Westergaard (1933), in the sense of the sway on both faces. All of this is dead. Draw the stone with
-its full weight: its uplift is in the pressures. Earth that stands in the water is lighter by that of the water; lay
-both, one after the other.
+lighter by the weight of the water, and in an earthquake list its uplift and its push yourself. With `foot` it also
+presses in the joints on fixed bodies, with `beds` in all beds: upwards on the block above, downwards on that below.
+There the head falls evenly along x, from one end of the course to the other, where steps and ledges beside it lie open,
+and under the foot from its left end to its right end, also if it slants, curves or has steps. At both ends it is that
+of the water, or the height of the bed if that is higher. This is for beds that are pressed from end to end: if one
+opens, water stands in the open part with its full pressure, and the structure holds less. In a model with a sway `quake
+N D` adds the push of the water at N/D of it, after Westergaard (1933), in the sense of the sway on both faces. All of
+this is dead. Draw the stone with its full weight: its uplift is in the pressures. Earth that stands in the water is
+lighter by that of the water; lay both, one after the other.
 
 Each load is two forces at the ends of an edge, with the same sum and the same moment; only their parts are rounded.
 They stand behind the loads of MODEL, which keep their numbers. If rounding would change the dead or the live ones by
