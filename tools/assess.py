@@ -52,7 +52,7 @@ from masonry.assessing import changes
 from masonry.assessing.trials import LIMITED, Assessment, Row, Wanted, part_of, rounded, twentieth
 from masonry.console import Progress, Refused, Words, plain, ran
 from masonry.lp.programs import MISSING
-from masonry.model import Model
+from masonry.model import Bearing, Model
 from masonry.numbers import decimal, number, whole
 from masonry.questions.case import Case
 from masonry.questions.results import Collapses, Stands, Unlimited, upper
@@ -206,19 +206,20 @@ STILL = """an earthquake: docs/use/scope.md, "What a sway means, and what it doe
 an earth that is weaker than its pressure says: docs/worked/wall.md, step 11"""
 SETS = """sets of live loads without the rest, as half of a crowd or of snow: docs/use/safety.md, "Sets of live loads"
 live loads that turn round while others keep their direction"""
-APART = """dead loads one by one a tenth less or more, and several that are missing at once"""
+APART = """dead loads one by one a tenth less or more, and several missing at once, as the parts of one floor"""
 DOWN = """a load that travels farther than to the next block, and axles: tools/travel.py
 two loads together, in any proportion: tools/region.py"""
 STAYS = """a live load at any other place, or without the others: none was moved or asked alone here"""
 
 
-def untried(model: Model) -> Iterator[str]:
+def untried(model: Model, bearings: Sequence[Bearing], travels: bool) -> Iterator[str]:
     """The mistakes that no script has tried."""
     live, dead = model.live_loads(), [load for load in model.loads if load.kind == "dead"]
     for lines in (ALWAYS, SWAYING if any(model.sway or ()) else STILL, SETS if live[1:] else "",
                   APART if dead[1:] else "", DOWN if any(not load.force[0] for load in live) else "",
                   STAYS if live and not changes.one_by_one(model) else ""):
         yield from (f"- {line}." for line in lines.splitlines())
+    yield from (f"- {line}." for line in changes.left_out(model, bearings, travels))
 
 
 def heading(found: Assessment) -> str:
@@ -235,7 +236,8 @@ def lines_of(found: Assessment) -> Iterator[str]:
     if not any(end is None or isinstance(end.found, Collapses) for end in found.drawn.ends):
         yield from ["", "Sliding:", "", *sliding(found)]
     yield from ["", "In the drawing:", "", *odd(found)]
-    yield from ["", "What no script has tried (docs/use/safety.md has the list):", "", *untried(found.model)]
+    yield from ["", "What no script has tried (docs/use/safety.md has the list):", ""]
+    yield from untried(found.model, found.bearings, found.wanted.travels)
 
 
 def assess(words: list[str]) -> int:

@@ -21,7 +21,7 @@ from masonry import model as models, program, time_limit
 from masonry.assessing import changes, trials
 from masonry.assessing.changes import Drawing
 from masonry.console import Answer, Progress, Refused
-from masonry.model import Load, Material, Model
+from masonry.model import Block, Load, Material, Model
 from masonry.questions import slides
 from masonry.time_limit import Spent
 
@@ -65,6 +65,26 @@ class Assessed(Asked):
         there = replace(arch, sway=[1, 0], loads=[replace(arch.loads[0], block="v6", at=[-134, 59])])
         self.assertEqual(self.rows(lines)["as-drawn"], ["1.347"])
         self.assertEqual(self.structure(there)[1].factor(1), Fraction(9647564351, 7488352817))
+
+    def test_what_is_left_out_is_told(self) -> None:
+        # A post with seven dead loads, none of which is taken away; and one with a dead load, which doesn't sway
+        # beside a live load, unless that is what it takes of the sway.
+        seven = post([*(Load("post", "dead", [1, 4], [0, -k]) for k in range(1, 8)), PUSH])
+        said = "- a dead load that is missing: more than 6 act straight down."
+        self.assertIn(said, self.assessed(seven))
+        self.assertNotIn(said, self.assessed(replace(seven, loads=seven.loads[1:])))
+        sways = replace(post([Load("post", "dead", [0, 4], [0, -2]), PUSH]), version=2, sway=[1, 0])
+        said = "- dead loads that sway, as that on post: beside live loads list what each takes of the sway."
+        self.assertIn(said, self.assessed(sways))
+        own = Load("post", "live", [0, 4], [2, 0])
+        self.assertNotIn(said, self.assessed(replace(sways, loads=[*sways.loads[:1], own])))
+        # A load on a top of which a joint takes a part isn't moved.
+        stones = [Block(name="ground", material="stone", fixed=True, corners=[[0, -10], [10, -10], [10, 0], [0, 0]]),
+                  Block(name="corbel", material="stone", corners=[[0, 0], [20, 0], [20, 2], [0, 2]]),
+                  Block(name="wall", material="stone", corners=[[0, 2], [10, 2], [10, 30], [0, 30]])]
+        corbel = replace(seven, blocks=stones, loads=[Load("corbel", "live", [12, 2], [0, -1])])
+        self.assertIn("- live load 1 at another place: a joint is on its edge of corbel, or it is on none.",
+                      self.assessed(corbel))
 
     def test_every_figure_has_its_certificate(self) -> None:
         rows = self.rows(self.assessed(example("arches/footbridge"), "0.0001"))

@@ -329,6 +329,25 @@ def oddities(model: Model) -> Iterator[str]:
         yield f"live loads of {min(small)} to {max(small)}: if they were rounded, then by up to {50 / min(small):.0f} %"
 
 
+def left_out(model: Model, bearings: Sequence[Bearing], travels: bool) -> Iterator[str]:
+    """The changes of a kind that is tried which aren't made of this model."""
+    hanging = [load for load in model.dead_loads() if hangs(load)]
+    if len(hanging) > FEW:
+        yield f"a dead load that is missing: more than {FEW} act straight down"
+    if other := [load.block for load in model.dead_loads() if not hangs(load)]:
+        yield f"a dead load that is missing and doesn't act straight down, as on {other[0]}"
+    still = [dead.block for dead in hanging if not any(sways_with(model, dead, live) for live in model.loads)]
+    if any(model.sway or ()) and still and model.live_loads():
+        yield f"dead loads that sway, as that on {still[0]}: beside live loads list what each takes of the sway"
+    blocks = {block.name: block for block in model.blocks}
+    for k in one_by_one(model):
+        load = model.loads[k]
+        if not (travels and hangs(load)) and not acts_on(blocks[load.block], load, bearings):
+            yield f"live load {k + 1} at another place: a joint is on its edge of {load.block}, or it is on none"
+    if len([one for one in model.materials if one.weight and one.name in used(model)]) > FEW:
+        yield f"weights of materials one by one: there are more than {FEW}"
+
+
 def distance(block: Block, load: Load) -> float:
     """How far off a block a load acts. Of what acts straight up or down the height doesn't matter."""
     if not load.force[0]:
