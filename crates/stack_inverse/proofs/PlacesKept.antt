@@ -17,13 +17,13 @@ zero_or_not n = ℤ_discrete n (pos 0)
 
 -- a place without a mark has nothing after a pivot in row r
 pub places_kept : (m r : ℕ) (s t : ℕ → RowSeen) (places uses new_places : List Marks) (marks new_marks touched : List ℕ)
-    (entered : List ℤ) → AreMarkedOn places uses marks (t r).numbers touched new_places new_marks →
+    (f : ℕ → ℤ) → AreMarkedOn places uses marks (t r).numbers touched new_places new_marks →
     length places ≡ multipliers m →
     ((q : ℕ) → number_at (s r).numbers q ≡ pos 0 → number_at (t r).numbers q ≡ pos 0) →
-    ((i : ℕ) → i ≤ m → i ≢ r → KeepsZeros (s i).numbers (t r).numbers (number_at entered i) (t i).numbers) →
-    ((i : ℕ) → i ≤ m → mark_in touched i ≡ 0 → number_at entered i ≡ pos 0) → ArePlaces places m s →
+    ((i : ℕ) → i ≤ m → i ≢ r → KeepsZeros (s i).numbers (t r).numbers (f i) (t i).numbers) →
+    ((i : ℕ) → i ≤ m → mark_in touched i ≡ 0 → f i ≡ pos 0) → ArePlaces places m s →
     ArePlaces new_places m t
-places_kept m r s t places uses new_places marks new_marks touched entered k few own each told was i q li lq z =
+places_kept m r s t places uses new_places marks new_marks touched f k few own each told was i q li lq z =
     go (ℕ_discrete i r) (zero_or_not (number_at (t r).numbers q))
   where
     before : number_at (s i).numbers q ≡ pos 0

@@ -14,10 +14,10 @@ use Rattle.stack_table.specs.declared.types.Step.TheVariants.{Multiply, Subtract
 use Rattle.stack_table.specs.Spots.{reduced, reduce_item, reduce_spot}
 use Rattle.stack_inverse.specs.declared.columns.FirstColumn.{FirstColumn}
 use Rattle.stack_rows.specs.RowForm.{IsTaken}
-use Rattle.stack_inverse.specs.RowBlock.{AllNumbersFit, IsReducedRow}
+use Rattle.stack_inverse.specs.RowBlock.{AllNumbersFit, IsReduced}
 use Rattle.stack_inverse.specs.Columns.{number_with, cell_with}
 use Rattle.stack_rows.proofs.OverOneDenominator.{over_fits, within_multiple}
-use Rattle.stack_inverse.proofs.Steps.{taken_own}
+use Rattle.stack_inverse.proofs.Steps.{taken_own, taken_keeps}
 
 -- where a sum isn't too wide its first number fits
 first_fits : (m : ℤ) (x y : Fraction) → sum_fits m x y ≡ true → fraction_fits m x ≡ true
@@ -92,13 +92,15 @@ module _ (m : ℕ) (columns : List FirstColumn) (row : List ℤ) (d : ℤ) (posi
       f ≡ number_with m columns row column → IsTaken row (d *ℤ e) pivot e f new after →
       reduce_spot ordered_fractions (is_too_wide widest) (suc (length columns + m)) (cell_with m columns row d)
       (cell_with m columns pivot e) (over f d) i ≡ None →
-      IsReducedRow widest (suc (length columns + m)) (cell_with m columns row d) (cell_with m columns pivot e) i column
-      (cell_with m columns new after)
+      IsReduced widest m columns row d pivot e i column new after
   row_by_cells new pivot after e f i column he fits hf x none = record {
-    own = own_is;
-    fits = by_cells_fit m columns new after x.positive fits (cell_with m columns row d)
-        (cell_with m columns pivot e) (cell_with m columns row d column) i own_is none_is;
-    none = none_is;
+    cells = record {
+      own = own_is;
+      fits = by_cells_fit m columns new after x.positive fits (cell_with m columns row d)
+          (cell_with m columns pivot e) (cell_with m columns row d column) i own_is none_is;
+      none = none_is;
+    };
+    zeros = taken_keeps m columns row d positive new pivot after e e f f column he he hf refl x;
   }
     where
       own_is : (j : ℕ) → cell_with m columns new after j ≡ reduced ordered_fractions (cell_with m columns row d)

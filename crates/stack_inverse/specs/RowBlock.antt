@@ -1,12 +1,13 @@
 -- Rows of a table: tops of their numbers, and what a pivot makes of them.
-use Rattle.std.specs.Prelude.{◌≡◌, ℕ, ◌*◌, ◌<◌, ◌≤◌, true, None, List, ℤ, pos, unsigned_abs}
+use Rattle.std.specs.Prelude.{◌≡◌, ℕ, suc, ◌+◌, ◌*◌, ◌<◌, ◌≤◌, true, None, List, length, ℤ, pos, unsigned_abs}
 use Rattle.stack_algebra.specs.Fraction.{Fraction}
 use Rattle.stack_algebra.specs.Rows.{next}
 use Rattle.stack_algebra.proofs.OrderedFractions.{ordered_fractions}
 use Rattle.stack_rational.specs.TooWide.{fraction_fits, is_too_wide}
 use Rattle.stack_table.specs.Spots.{divided, reduced, divide_item, reduce_spot, cells_spot}
 use Rattle.stack_rows.specs.RowForm.{number_at, StepFits}
-use Rattle.stack_inverse.specs.Columns.{RowSeen, multipliers}
+use Rattle.stack_inverse.specs.declared.columns.FirstColumn.{FirstColumn}
+use Rattle.stack_inverse.specs.Columns.{RowSeen, multipliers, number_with, cell_with}
 
 -- no number is greater than b in size
 abbrev pub AreWithin : (ℕ → ℤ) → ℕ → Type 0
@@ -44,6 +45,13 @@ pub record IsReducedRow (m : ℤ) (width : ℕ) (old g : ℕ → Fraction) (i co
   pub own : (j : ℕ) → new j ≡ reduced ordered_fractions old g (old column) j
   pub fits : AllNumbersFit m new
   pub none : reduce_spot ordered_fractions (is_too_wide m) width old g (old column) i ≡ None
+
+-- row i of these numbers over d is reduced by the pivot row over e, and keeps its zeros
+pub record IsReduced (m : ℤ) (rows : ℕ) (columns : List FirstColumn) (row : List ℤ) (d : ℤ) (pivot : List ℤ) (e : ℤ)
+    (i column : ℕ) (new : List ℤ) (after : ℤ) : Type 0 where
+  pub cells : IsReducedRow m (suc (length columns + rows)) (cell_with rows columns row d)
+      (cell_with rows columns pivot e) i column (cell_with rows columns new after)
+  pub zeros : KeepsZeros row pivot (number_with rows columns row column) new
 
 -- the pivot row is divided, its cells fit and nothing that is written is too wide
 pub record IsDividedRow (m : ℤ) (old : ℕ → Fraction) (column : ℕ) (new : ℕ → Fraction) : Type 0 where

@@ -4,7 +4,7 @@ use Rattle.stack_algebra.specs.Fraction.{Fraction}
 use Rattle.stack_inverse.specs.declared.first.First.{First}
 use Rattle.stack_inverse.specs.declared.row.TableRow.{TableRow}
 use Rattle.stack_inverse.specs.declared.row.PivotRow.{PivotRow}
-use Rattle.stack_inverse.specs.RowBlock.{AreWithin}
+use Rattle.stack_inverse.specs.RowBlock.{AreWithin, IsReduced}
 use Rattle.stack_rows.specs.RowForm.{number_at}
 use Rattle.stack_inverse.specs.Columns.{RowSeen, at_value, no_row, multipliers, number_with, cell_with, revised_cell}
 
@@ -33,6 +33,11 @@ columns_of f = suc (length f.columns.items + f.rows)
 -- the cell of the pivot row in a column
 abbrev pub pivot_cell : First → PivotRow → ℕ → Fraction
 pivot_cell f q j = cell_with f.rows f.columns.items q.row.numbers.items q.row.under j
+
+-- row i is reduced by the pivot row, and keeps its zeros
+abbrev pub IsReducedBy : ℤ → First → RowSeen → PivotRow → (i column : ℕ) → RowSeen → Type 0
+IsReducedBy m f old q i column new = IsReduced m f.rows f.columns.items old.numbers old.under q.row.numbers.items
+    q.row.under i column new.numbers new.under
 
 -- no number that is made of a pivot row is greater in size than its top, and none that it keeps
 pub record IsPivotRow (f : First) (q : PivotRow) : Type 0 where

@@ -6,11 +6,11 @@ ghost use Rattle.stack_algebra.proofs.OrderedFractions.{ordered_fractions};
 ghost use Rattle.stack_rational.specs.Laws.{widest};
 ghost use Rattle.stack_rational.specs.TooWide.{is_too_wide};
 ghost use Rattle.stack_table.specs.Spots.{cells_spot};
-ghost use Rattle.stack_inverse.specs.RowBlock.{IsPivotedCells, IsDividedRow, IsReducedRow, AreFitting, KeepsZeros};
+ghost use Rattle.stack_inverse.specs.RowBlock.{IsPivotedCells, IsDividedRow, AreFitting, KeepsZeros};
 ghost use Rattle.stack_inverse.specs.CellSteps.{TellsSpot, PivotIsRefused};
 ghost use Rattle.stack_inverse.specs.Columns.{multipliers, HaveWidths, IsPut, AreEntered};
 ghost use Rattle.stack_inverse.specs.RowsSeen.{seen_of, seen_at, number_in_row, cell_in_row, cells_of_rows, pivot_cell};
-ghost use Rattle.stack_inverse.specs.RowsSeen.{IsPivotRow, columns_of};
+ghost use Rattle.stack_inverse.specs.RowsSeen.{IsPivotRow, IsReducedBy, columns_of};
 ghost use Rattle.stack_inverse.specs.Marks.{mark_in};
 ghost use Rattle.stack_rows.specs.RowForm.{number_at};
 
@@ -100,10 +100,7 @@ fn reduce_others(
     ensures fitting { AreFitting widest (cells_of_rows first.now rows.new) (seen_at rows.new) }
     ensures fit { OnOk result ((k : ℕ) → k < suc first.now.rows → (k ≢ row) → (seen_at rows.new k).fits ≡ true) }
     ensures ok { OnOk result ((k : ℕ) → k < suc first.now.rows → (k ≢ row) →
-        IsReducedRow widest (columns_of first.now) (cells_of_rows first.now rows.old k) (pivot_cell first.now pivot.now)
-        k column (cells_of_rows first.now rows.new k)) }
-    ensures zeros { OnOk result ((k : ℕ) → k < suc first.now.rows → (k ≢ row) → KeepsZeros (seen_at rows.old k).numbers
-        pivot.now.row.numbers.items (number_at entered.now k) (seen_at rows.new k).numbers) }
+        IsReducedBy widest first.now (seen_at rows.old k) pivot.now k column (seen_at rows.new k)) }
     ensures refused { IfErr result (λ e. PivotIsRefused widest (suc first.now.rows) (columns_of first.now)
         (cells_of_rows first.now rows.old) (pivot_cell first.now pivot.now) row column e) }
 {
@@ -156,7 +153,8 @@ pub fn pivot_rows(
     ensures ok { OnOk result (IsPivotedCells widest (suc first.now.rows) (columns_of first.now)
         (cells_of_rows first.now rows.old) row column (cells_of_rows first.now rows.new)) }
     ensures zeros { OnOk result ((k : ℕ) → k ≤ first.now.rows → (k ≢ row) → KeepsZeros (seen_at rows.old k).numbers
-        (seen_at rows.new row).numbers (number_at entered.now k) (seen_at rows.new k).numbers) }
+        (seen_at rows.new row).numbers (number_in_row first.now (seen_at rows.old k) column)
+        (seen_at rows.new k).numbers) }
     ensures own_zeros { OnOk result ((q : ℕ) → number_at (seen_at rows.old row).numbers q ≡ pos 0 →
         number_at (seen_at rows.new row).numbers q ≡ pos 0) }
     ensures refused { IfErr result (λ e. TellsSpot e (cells_spot ordered_fractions (is_too_wide widest)

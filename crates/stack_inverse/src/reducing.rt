@@ -8,10 +8,11 @@ ghost use Rattle.stack_rational.specs.Laws.{widest};
 ghost use Rattle.stack_rational.specs.TooWide.{is_too_wide};
 ghost use Rattle.stack_table.specs.Spots.{reduce_spot};
 ghost use Rattle.stack_rows.specs.RowForm.{IsTaken};
-ghost use Rattle.stack_inverse.specs.RowBlock.{IsReducedRow, AllNumbersFit, KeepsZeros};
+ghost use Rattle.stack_inverse.specs.RowBlock.{AllNumbersFit};
 ghost use Rattle.stack_inverse.specs.Columns.{multipliers};
 ghost use Rattle.stack_inverse.specs.CellSteps.{TellsSpot};
-ghost use Rattle.stack_inverse.specs.RowsSeen.{seen_of, number_in_row, cell_in_row, pivot_cell, IsPivotRow, columns_of};
+ghost use Rattle.stack_inverse.specs.RowsSeen.{seen_of, number_in_row, cell_in_row, pivot_cell, IsPivotRow};
+ghost use Rattle.stack_inverse.specs.RowsSeen.{IsReducedBy, columns_of};
 
 use crate::bounding::{fits_for, small_step, under_fits};
 use crate::first::First;
@@ -150,10 +151,7 @@ fn step(
     ensures width { length row.new.row.numbers.items ≡ length row.old.row.numbers.items }
     ensures fits { row.new.fits ≡ row.old.fits }
     ensures ok { OnOk result ((column : ℕ) → number ≡ number_in_row first.now (seen_of row.old) column →
-        IsReducedRow widest (columns_of first.now) (cell_in_row first.now (seen_of row.old))
-        (pivot_cell first.now pivot.now) i column (cell_in_row first.now (seen_of row.new))) }
-    ensures zeros { OnOk result (KeepsZeros row.old.row.numbers.items pivot.now.row.numbers.items number
-        row.new.row.numbers.items) }
+        IsReducedBy widest first.now (seen_of row.old) pivot.now i column (seen_of row.new)) }
     ensures refused { IfErr result (λ e. (column : ℕ) → number ≡ number_in_row first.now (seen_of row.old) column →
         TellsSpot e (reduce_spot ordered_fractions (is_too_wide widest) (columns_of first.now)
         (cell_in_row first.now (seen_of row.old)) (pivot_cell first.now pivot.now)
@@ -223,10 +221,7 @@ pub fn reduce(
     ensures fitting { OnOk result (row.new.fits ≡ true) }
     ensures ok { OnOk result ((column : ℕ) → number ≡ number_in_row first.now (seen_of row.old) column →
         (row.old.fits ≡ true → AllNumbersFit widest (cell_in_row first.now (seen_of row.old))) →
-        IsReducedRow widest (columns_of first.now) (cell_in_row first.now (seen_of row.old))
-        (pivot_cell first.now pivot.now) i column (cell_in_row first.now (seen_of row.new))) }
-    ensures zeros { OnOk result (KeepsZeros row.old.row.numbers.items pivot.now.row.numbers.items number
-        row.new.row.numbers.items) }
+        IsReducedBy widest first.now (seen_of row.old) pivot.now i column (seen_of row.new)) }
     ensures refused { IfErr result (λ e. (column : ℕ) → number ≡ number_in_row first.now (seen_of row.old) column →
         TellsSpot e (reduce_spot ordered_fractions (is_too_wide widest) (columns_of first.now)
         (cell_in_row first.now (seen_of row.old)) (pivot_cell first.now pivot.now)

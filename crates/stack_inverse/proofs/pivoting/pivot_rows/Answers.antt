@@ -50,7 +50,7 @@ both c d =
     c.args.column d (λ k l. seen_past c.args.rows.now (suc f.rows) k c.requires.height (omega (arith, l)))
     (seen_at c.reduce_others.new.rows) (seen_at c.put_pivot.new.rows) c.requires.row_in
     (λ k l. seen_past c.reduce_others.new.rows (suc f.rows) k (c.reduce_others.auto.rows ∙ c.requires.height)
-    (omega (arith, l))) c.put_pivot.ensures c.in-Ok.ensures.ok
+    (omega (arith, l))) c.put_pivot.ensures (λ k l n. (c.in-Ok.ensures.ok k l n).cells)
 
 pub returns-in-Ok-clause-fitting : goal.returns-in-Ok-clause-fitting
 returns-in-Ok-clause-fitting c = let p = goal.at.returns-in-Ok-clause-fitting c in
@@ -73,8 +73,8 @@ pub returns-in-Ok-clause-zeros : goal.returns-in-Ok-clause-zeros
 returns-in-Ok-clause-zeros c = λ k l n.
     let put = c.put_pivot.ensures in
     subst₂ (λ (xs : List ℤ) (s : RowSeen). KeepsZeros (seen_at c.args.rows.now k).numbers xs
-    (number_at c.args.entered.now k) s.numbers) (sym put.own_numbers) (sym (put.other k n))
-    (c.in-Ok.ensures.zeros k (omega (arith, l)) n)
+    (number_in_row c.args.first.now (seen_at c.args.rows.now k) c.args.column) s.numbers) (sym put.own_numbers)
+    (sym (put.other k n)) (c.in-Ok.ensures.ok k (omega (arith, l)) n).zeros
 
 pub returns-in-Ok-clause-own_zeros : goal.returns-in-Ok-clause-own_zeros
 returns-in-Ok-clause-own_zeros c = λ q z.

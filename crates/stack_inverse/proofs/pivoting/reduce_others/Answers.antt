@@ -5,16 +5,16 @@ use Rattle.std.proofs.lemmas.Bool.{cases_lt}
 use Rattle.stack_rational.proofs.Common.{w128, ordered_fractions, is_too_wide, widest, is_zero_whole}
 use Rattle.stack_table.specs.Spots.{reduce_spot}
 use Rattle.stack_rows.specs.RowForm.{number_at}
-use Rattle.stack_inverse.specs.RowBlock.{AllNumbersFit, AreFitting, IsReducedRow, KeepsZeros}
+use Rattle.stack_inverse.specs.RowBlock.{AllNumbersFit, AreFitting}
 use Rattle.stack_inverse.specs.CellSteps.{TellsSpot}
 use Rattle.stack_inverse.specs.declared.first.First.{First}
 use Rattle.stack_inverse.specs.declared.row.TableRow.{TableRow}
 use Rattle.stack_inverse.specs.declared.row.PivotRow.{PivotRow}
 use Rattle.stack_inverse.specs.Columns.{RowSeen, multipliers, AreEntered}
 use Rattle.stack_inverse.specs.Marks.{mark_in}
-use Rattle.stack_inverse.proofs.Steps.{row_stays, same_zeros}
+use Rattle.stack_inverse.proofs.Steps.{row_stays}
 use Rattle.stack_inverse.specs.RowsSeen.{seen_of, seen_at, number_in_row, cell_in_row, cells_of_rows, columns_of}
-use Rattle.stack_inverse.specs.RowsSeen.{pivot_cell}
+use Rattle.stack_inverse.specs.RowsSeen.{pivot_cell, IsReducedBy}
 use Rattle.stack_inverse.proofs.PutRow.{seen_index, widths_set, done_set, left_set, fitting_set, under_positive}
 use Rattle.stack_inverse.proofs.pivoting.reduce_others.Goals as goal
 use Rattle.stack_inverse.proofs.pivoting.reduce_others.Goals.{After-index-rows-i}
@@ -22,10 +22,9 @@ use Rattle.stack_inverse.proofs.pivoting.reduce_others.Goals.{After-index-rows-i
 -- a row that is known to fit stays where its number in the column is 0
 stays : (p : First) (rows : List TableRow) (q : PivotRow) (k column : ℕ) → (seen_at rows k).fits ≡ true →
     AreFitting widest (cells_of_rows p rows) (seen_at rows) → number_in_row p (seen_at rows k) column ≡ pos 0 →
-    IsReducedRow widest (columns_of p) (cells_of_rows p rows k) (pivot_cell p q) k column
-    (cell_in_row p (seen_at rows k))
+    IsReducedBy widest p (seen_at rows k) q k column (seen_at rows k)
 stays p rows q k column f fitting z = row_stays p.rows p.columns.items (seen_at rows k).numbers
-    (seen_at rows k).under (under_positive rows k) (pivot_cell p q) k column (columns_of p) (fitting k f)
+    (seen_at rows k).under (under_positive rows k) q.row.numbers.items q.row.under k column (fitting k f)
     (ap is_zero_whole z)
 
 -- so do rows that are passed over
@@ -35,17 +34,10 @@ passed : (p : First) (rows : List TableRow) (q : PivotRow) (entered : List ℤ) 
     ((i : ℕ) → i ≤ p.rows → mark_in touched i ≡ 0 → number_at entered i ≡ pos 0) →
     (all_fit ≡ true → (i : ℕ) → i ≤ p.rows → (seen_at rows i).fits ≡ true) →
     (all_fit ≡ true) × (mark_in touched k ≡ 0) → ((seen_at rows k).fits ≡ true)
-    × IsReducedRow widest (columns_of p) (cells_of_rows p rows k) (pivot_cell p q) k column
-    (cell_in_row p (seen_at rows k))
+    × IsReducedBy widest p (seen_at rows k) q k column (seen_at rows k)
 passed p rows q entered touched all_fit k column l fitting is told fit h =
     let f = fit h.0 k l in
     (f, stays p rows q k column f fitting (sym (is k l) ∙ told k l h.1))
-
--- and keep their zeros
-still : (rows : List TableRow) (pivot entered : List ℤ) (k : ℕ) {now : RowSeen} → now ≡ seen_at rows k →
-    KeepsZeros (seen_at rows k).numbers pivot (number_at entered k) now.numbers
-still rows pivot entered k e = subst (λ (s : RowSeen). KeepsZeros (seen_at rows k).numbers pivot (number_at entered k)
-    s.numbers) (sym e) (same_zeros (seen_at rows k).numbers pivot (number_at entered k))
 
 -- the row that is lent
 module _ (c : After-index-rows-i) where
@@ -92,8 +84,6 @@ loop-i-init c =
       fitting = c.requires.fitting;
       fit = λ k l d. (passes k l).0;
       done = λ k l d. (passes k l).1;
-      zeros = λ k l d. same_zeros (seen_at rows k).numbers c.args.pivot.now.row.numbers.items
-          (number_at c.args.entered.now k);
     }
 
 pub loop-i-preserved-then-i-row : goal.loop-i-preserved-then-i-row
@@ -119,13 +109,9 @@ loop-i-preserved-then-i-row c =
       ];
       done = λ k l d. elim (cases_lt k i) [
         | inl b ↦ inv.done k b d
-        | inr b ↦ subst (λ (s : RowSeen). IsReducedRow widest (columns_of p) (cells_of_rows p first k)
-            (pivot_cell p c.args.pivot.now) k c.args.column (cell_in_row p s)) (sym (inv.left k b))
+        | inr b ↦ subst (λ (s : RowSeen). IsReducedBy widest p (seen_at first k) c.args.pivot.now k
+            c.args.column s) (sym (inv.left k b))
             (passes k (omega (arith, b, d, c.if-i-row.true)) l).1
-      ];
-      zeros = λ k l d. elim (cases_lt k i) [
-        | inl b ↦ inv.zeros k b d
-        | inr b ↦ still first c.args.pivot.now.row.numbers.items c.args.entered.now k (inv.left k b)
       ];
     }
 
@@ -156,27 +142,18 @@ loop-i-preserved c =
       widths = widths_set rows i new (inside at) p.rows inv.widths (c.reduce.ensures.width ∙ is_wide at);
       left = λ k l. left k (omega (arith, l, next.later));
       fitting = fitting_set rows i new (inside at) widest (λ (k : ℕ) (s : RowSeen). cell_in_row p s) inv.fitting
-          (λ _. here.fits);
+          (λ _. here.cells.fits);
       fit = λ k l d. elim (cases_lt k (i + 1)) [
         | inl b ↦ done_set rows i new (inside at) (λ (k : ℕ) (s : RowSeen). s.fits ≡ true) c.args.row inv.fit
             c.in-Ok.ensures.fitting k b d
         | inr b ↦ ap (λ (s : RowSeen). s.fits) (left k b) ∙ (passes k b l).0
       ];
       done = λ k l d. elim (cases_lt k (i + 1)) [
-        | inl b ↦ done_set rows i new (inside at) (λ (k : ℕ) (s : RowSeen). IsReducedRow widest (columns_of p)
-            (cells_of_rows p first k) (pivot_cell p c.args.pivot.now) k c.args.column (cell_in_row p s)) c.args.row
-            inv.done (subst (λ (s : RowSeen). IsReducedRow widest (columns_of p) (cell_in_row p s)
-            (pivot_cell p c.args.pivot.now) i c.args.column (cell_in_row p (seen_of new))) (is_left at) here) k b d
-        | inr b ↦ subst (λ (s : RowSeen). IsReducedRow widest (columns_of p) (cells_of_rows p first k)
-            (pivot_cell p c.args.pivot.now) k c.args.column (cell_in_row p s)) (sym (left k b)) (passes k b l).1
-      ];
-      zeros = λ k l d. elim (cases_lt k (i + 1)) [
-        | inl b ↦ done_set rows i new (inside at) (λ (k : ℕ) (s : RowSeen). KeepsZeros (seen_at first k).numbers
-            c.args.pivot.now.row.numbers.items (number_at c.args.entered.now k) s.numbers) c.args.row inv.zeros
-            (subst (λ (s : RowSeen). KeepsZeros s.numbers c.args.pivot.now.row.numbers.items
-            (number_at c.args.entered.now i) new.row.numbers.items) (is_left at)
-            (rw (to_z-of_z fits) at c.in-Ok.ensures.zeros)) k b d
-        | inr b ↦ still first c.args.pivot.now.row.numbers.items c.args.entered.now k (left k b)
+        | inl b ↦ done_set rows i new (inside at) (λ (k : ℕ) (s : RowSeen). IsReducedBy widest p
+            (seen_at first k) c.args.pivot.now k c.args.column s) c.args.row inv.done (subst (λ (s : RowSeen).
+            IsReducedBy widest p s c.args.pivot.now i c.args.column (seen_of new)) (is_left at) here) k b d
+        | inr b ↦ subst (λ (s : RowSeen). IsReducedBy widest p (seen_at first k) c.args.pivot.now k
+            c.args.column s) (sym (left k b)) (passes k b l).1
       ];
     }
 
@@ -203,7 +180,7 @@ returns-in-Err-clause-refused c =
       omega (arith, in_height at),
       record {
         apart = c.if-i-row.false;
-        before = λ k l d. (c.loop-i.invariant.done k l d).none;
+        before = λ k l d. (c.loop-i.invariant.done k l d).cells.none;
         here = subst (λ (s : RowSeen). TellsSpot c.in-Err.e (reduce_spot ordered_fractions (is_too_wide widest)
             (columns_of p) (cell_in_row p s) (pivot_cell p c.args.pivot.now) (cell_in_row p s c.args.column) i))
             (is_left at) (c.in-Err.ensures.refused c.args.column (number_is at fits));
@@ -216,8 +193,4 @@ returns-clause-ok c = λ k l d. c.loop-i.invariant.done k
 
 pub returns-clause-fit : goal.returns-clause-fit
 returns-clause-fit c = λ k l d. c.loop-i.invariant.fit k
-    (omega (arith, l, c.loop-i-test.false, c.loop-i.auto.rows, c.requires.height)) d
-
-pub returns-clause-zeros : goal.returns-clause-zeros
-returns-clause-zeros c = λ k l d. c.loop-i.invariant.zeros k
     (omega (arith, l, c.loop-i-test.false, c.loop-i.auto.rows, c.requires.height)) d

@@ -1,9 +1,8 @@
 use Rattle.std.proofs.Common.{◌≡◌, ◌≢◌, ℕ, ◌<◌, ◌≤◌, ◌-◌, length, true}
 use Rattle.stack_rational.proofs.Common.{widest}
-use Rattle.stack_inverse.specs.RowBlock.{IsReducedRow, AreFitting, KeepsZeros}
-use Rattle.stack_rows.specs.RowForm.{number_at}
+use Rattle.stack_inverse.specs.RowBlock.{AreFitting}
 use Rattle.stack_inverse.specs.Columns.{HaveWidths}
-use Rattle.stack_inverse.specs.RowsSeen.{seen_at, cells_of_rows, cell_in_row, columns_of, pivot_cell}
+use Rattle.stack_inverse.specs.RowsSeen.{seen_at, cells_of_rows, IsReducedBy}
 use Rattle.stack_inverse.proofs.pivoting.reduce_others.Given as goal
 
 -- the rows before row i are reduced and fit, but for the pivot row; the others are as they were
@@ -14,10 +13,8 @@ invariant-loop-i l = record {
   left : (k : ℕ) → l.i ≤ k → seen_at l.rows k ≡ seen_at l.fn.rows k;
   fitting : AreFitting widest (cells_of_rows l.first l.rows) (seen_at l.rows);
   fit : (k : ℕ) → k < l.i → k ≢ l.row → (seen_at l.rows k).fits ≡ true;
-  done : (k : ℕ) → k < l.i → k ≢ l.row → IsReducedRow widest (columns_of l.first) (cells_of_rows l.first l.fn.rows k)
-      (pivot_cell l.first l.pivot) k l.column (cell_in_row l.first (seen_at l.rows k));
-  zeros : (k : ℕ) → k < l.i → k ≢ l.row → KeepsZeros (seen_at l.fn.rows k).numbers l.pivot.row.numbers.items
-      (number_at l.entered k) (seen_at l.rows k).numbers;
+  done : (k : ℕ) → k < l.i → k ≢ l.row → IsReducedBy widest l.first (seen_at l.fn.rows k) l.pivot k l.column
+      (seen_at l.rows k);
 }
 
 abbrev pub decreases-loop-i : goal.decreases-loop-i

@@ -1,7 +1,6 @@
-use Rattle.std.proofs.Common.{arith, rules, refl, sym, ap, length, ◌∙◌, ◌*ℤ◌, SFits, to_z-of_z}
-use Rattle.stack_rational.proofs.Common.{w128, mul_pos}
-use Rattle.stack_inverse.specs.RowsSeen.{columns_of}
-use Rattle.stack_inverse.proofs.Steps.{row_by_tops, taken_zeros}
+use Rattle.std.proofs.Common.{arith, rules, sym, ap, length, ◌∙◌, SFits, to_z-of_z}
+use Rattle.stack_rational.proofs.Common.{w128}
+use Rattle.stack_inverse.proofs.Steps.{row_by_tops}
 use Rattle.stack_inverse.proofs.RowByCells.{row_by_cells}
 use Rattle.stack_inverse.proofs.reducing.step.Goals as goal
 
@@ -22,19 +21,7 @@ returns-in-Some-take_small-clause-ok c = λ column hf.
     q.under k.times k.less c.args.number column q.positive c.in-Some.ensures.some hf
     (rw (to_z-of_z c.ranges.number, c.requires.divider) at c.in-Some.ensures.cross)
     (rw (step.times, step.less) at c.in-Some-take_small.ensures.ok) f.top c.args.pivot.now.whole_top f.first c.args.i
-    (columns_of f) step.fits c.requires.pivot.within
-
-pub returns-in-Some-take_small-clause-zeros : goal.returns-in-Some-take_small-clause-zeros
-returns-in-Some-take_small-clause-zeros c =
-    let r = c.args.row.now.row in
-    let q = c.args.pivot.now.row in
-    let k = c.in-Some.factors in
-    let step = c.in-Some-small_step.ensures in
-    let new = c.take_small.new.self in
-    taken_zeros r.numbers.items q.numbers.items new.numbers.items (r.under *ℤ k.times) q.under c.args.number k.times
-    k.less new.under (mul_pos r.under k.times r.positive c.in-Some.ensures.some) q.positive
-    (rw (to_z-of_z c.ranges.number, c.requires.divider) at c.in-Some.ensures.cross)
-    (rw (step.times, step.less) at c.in-Some-take_small.ensures.ok)
+    step.fits c.requires.pivot.within
 
 pub returns-in-Some-take-clause-ok : goal.returns-in-Some-take-clause-ok
 returns-in-Some-take-clause-ok c = λ column hf.
@@ -47,19 +34,8 @@ returns-in-Some-take-clause-ok c = λ column hf.
     q.under k.times k.less c.args.number column q.positive c.in-Some.ensures.some hf
     (rw (to_z-of_z c.ranges.number, c.requires.divider) at c.in-Some.ensures.cross)
     (rw (c.fits_for.ensures.numbers, c.fits_for.ensures.under) at c.in-Some-take.ensures.ok) f.top
-    c.args.pivot.now.whole_top f.first c.args.i (columns_of f) (c.fits_for.ensures.fits c.if-fits_for.true)
+    c.args.pivot.now.whole_top f.first c.args.i (c.fits_for.ensures.fits c.if-fits_for.true)
     c.requires.pivot.within
-
-pub returns-in-Some-take-clause-zeros : goal.returns-in-Some-take-clause-zeros
-returns-in-Some-take-clause-zeros c =
-    let r = c.args.row.now.row in
-    let q = c.args.pivot.now.row in
-    let k = c.in-Some.factors in
-    let new = c.take.new.self in
-    taken_zeros r.numbers.items q.numbers.items new.numbers.items (r.under *ℤ k.times) q.under c.args.number k.times
-    k.less new.under (mul_pos r.under k.times r.positive c.in-Some.ensures.some) q.positive
-    (rw (to_z-of_z c.ranges.number, c.requires.divider) at c.in-Some.ensures.cross)
-    (rw (c.fits_for.ensures.numbers, c.fits_for.ensures.under) at c.in-Some-take.ensures.ok)
 
 pub returns-in-Ok-clause-ok : goal.returns-in-Ok-clause-ok
 returns-in-Ok-clause-ok c = λ column hf.
@@ -74,18 +50,6 @@ returns-in-Ok-clause-ok c = λ column hf.
     q.under c.args.number c.args.i column q.positive c.under_fits.ensures hf
     (rw (same.numbers, same.under, to_z-of_z own, to_z-of_z other, to_z-of_z c.ranges.number) at c.in-Ok.ensures.ok)
     (rw (same.numbers, same.under, to_z-of_z own, to_z-of_z c.ranges.number) at c.in-Ok.ensures.none)
-
-pub returns-in-Ok-clause-zeros : goal.returns-in-Ok-clause-zeros
-returns-in-Ok-clause-zeros c =
-    let r = c.args.row.now.row in
-    let q = c.args.pivot.now.row in
-    let new = c.step_by_cells.new.row.row in
-    let same = c.fits_for.ensures in
-    let own : SFits w128 r.under = search rules in
-    let other : SFits w128 q.under = search rules in
-    taken_zeros r.numbers.items q.numbers.items new.numbers.items (r.under *ℤ q.under) q.under c.args.number q.under
-    c.args.number new.under (mul_pos r.under q.under r.positive q.positive) q.positive refl
-    (rw (same.numbers, same.under, to_z-of_z own, to_z-of_z other, to_z-of_z c.ranges.number) at c.in-Ok.ensures.ok)
 
 pub returns-in-Err-clause-refused : goal.returns-in-Err-clause-refused
 returns-in-Err-clause-refused c = λ column hf.

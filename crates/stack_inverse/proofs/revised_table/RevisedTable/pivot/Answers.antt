@@ -1,11 +1,12 @@
 use Rattle.std.proofs.Common.{◌≡◌, ◌≢◌, sym, ap, subst, subst₂, ◌∙◌, ℕ, suc, ◌+◌, ◌<◌, ◌≤◌, ◌⊎◌, inl, inr, true, false}
-use Rattle.std.proofs.Common.{List, length, get_or, set, length-set, None, OnOk, IfErr, ℤ, pos, arith}
+use Rattle.std.proofs.Common.{List, length, get_or, set, length-set, None, OnOk, IfErr, pos, arith}
 use Rattle.std.proofs.lemmas.Result.{on_ok_weaker}
 use Rattle.stack_rational.proofs.Common.{with_items, Fraction, changed, next, ordered_fractions, is_too_wide, widest}
 use Rattle.stack_table.specs.Block.{shape_of}
 use Rattle.stack_table.specs.Table.{Tabled, columns, pivoted_at}
 use Rattle.stack_table.specs.Spots.{cells_spot, pivot_spot}
 use Rattle.stack_rows.specs.RowForm.{number_at}
+use Rattle.stack_inverse.specs.declared.first.First.{First}
 use Rattle.stack_inverse.specs.declared.row.TableRow.{TableRow}
 use Rattle.stack_inverse.specs.RowBlock.{IsPivotedCells, AreFitting, KeepsZeros}
 use Rattle.stack_inverse.specs.Columns.{RowSeen, multipliers, HaveWidths}
@@ -145,24 +146,17 @@ done c =
     c.args.column i j)) c.pivot_rows-done.ensures.ok)
 
 -- what a pivot that was done keeps 0
-abbrev Zeros : (m r : ℕ) (old : List TableRow) (entered : List ℤ) (new : List TableRow) → Type 0
-Zeros m r old entered new = ((i : ℕ) → i ≤ m → i ≢ r → KeepsZeros (seen_at old i).numbers (seen_at new r).numbers
-    (number_at entered i) (seen_at new i).numbers)
+abbrev Zeros : (f : First) (r column : ℕ) (old new : List TableRow) → Type 0
+Zeros f r column old new = ((i : ℕ) → i ≤ f.rows → i ≢ r → KeepsZeros (seen_at old i).numbers (seen_at new r).numbers
+    (number_in_row f (seen_at old i) column) (seen_at new i).numbers)
     × ((q : ℕ) → number_at (seen_at old r).numbers q ≡ pos 0 → number_at (seen_at new r).numbers q ≡ pos 0)
 
--- told of equal rows
-zeros_same : (m r : ℕ) {a b c d : List TableRow} {x y : List ℤ} → a ≡ b → x ≡ y → c ≡ d → Zeros m r a x c →
-    Zeros m r b y d
-zeros_same m r {a} {b} {c} {d} {x} {y} f g h z = subst (λ rs. Zeros m r rs y d) f
-    (subst (λ xs. Zeros m r a xs d) g (subst (λ rs. Zeros m r a x rs) h z))
-
-zeros : (c : After-mark_on) → c.is_ok-ok.result ≡ true → Zeros c.args.self.now.first.rows c.args.row
-    c.args.self.now.rows.items c.args.self.now.entered.items
-    (with_items c.args.self.now.rows c.pivot_rows-done.new.rows).items
+zeros : (c : After-mark_on) → c.is_ok-ok.result ≡ true → Zeros c.args.self.now.first c.args.row c.args.column
+    c.args.self.now.rows.items (with_items c.args.self.now.rows c.pivot_rows-done.new.rows).items
 zeros c e =
     let s = c.args.self.now in
     let done = c.pivot_rows-done.ensures in
-    zeros_same s.first.rows c.args.row c.as_mut_slice.ensures.value c.as_slice.ensures.value
+    subst₂ (λ (old new : List TableRow). Zeros s.first c.args.row c.args.column old new) c.as_mut_slice.ensures.value
     (sym (written s.rows c.pivot_rows-done.new.rows c.as_mut_slice.ensures.value c.pivot_rows-done.auto.rows)) (
       ok_gives c.pivot_rows-done.result c.is_ok-ok.result c.is_ok-ok.ensures.value done.zeros e,
       ok_gives c.pivot_rows-done.result c.is_ok-ok.result c.is_ok-ok.ensures.value done.own_zeros e,
@@ -175,8 +169,8 @@ told c =
     elim (done c) [
       | inl p ↦ places_kept m c.args.row (seen_at s.rows.items) (after c) s.places.items s.uses.items
           c.mark_on.new.places s.«open».words.items c.mark_on.new.«open».words.items s.to_visit.touched.words.items
-          s.entered.items (marked_on c p.0) s.places_long (zeros c p.0).1 (zeros c p.0).0 c.requires.entered.touched
-          s.told
+          (λ i. number_in s i c.args.column) (marked_on c p.0) s.places_long (zeros c p.0).1 (zeros c p.0).0
+          (λ i l z. sym (c.requires.entered.numbers i l) ∙ c.requires.entered.touched i l z) s.told
       | inr e ↦ full_places m (length s.to_visit.touched.words.items) c.mark_on.new.places
           c.mark_on.new.«open».words.items (after c) (c.mark_on.ensures.full e) (places_long c)
           (omega (arith, s.touched_long))
