@@ -1,17 +1,9 @@
 -- The least column in which a row is negative.
-use Rattle.std.proofs.Common.{◌≡◌, refl, sym, ap, subst, ℕ, suc, ◌<◌, ◌≤◌, Bool, true, false, None, Some}
-use Rattle.std.proofs.Common.{arith, ℤ, pos, negsuc, ◌<ℤ◌, List, length, get_or}
+use Rattle.std.proofs.Common.{◌≡◌, refl, sym, ap, ℕ, ◌<◌, ◌≤◌, Bool, true, false, None, Some}
+use Rattle.std.proofs.Common.{arith, ℤ, pos, negsuc, ◌<ℤ◌}
 use Rattle.stack_rational.proofs.Common.{ints, least, only_if, first_all-none, first_found, least-none, least-some}
 use Rattle.stack_rational.proofs.Common.{sign_of}
-use Rattle.stack_bland.specs.declared.found.Found.{Found}
 use Rattle.stack_bland.specs.Choice.{is_negative_sign}
-use Rattle.stack_bland.specs.Found.{TellsFound}
-use Rattle.stack_inverse.specs.declared.columns.FirstColumn.{FirstColumn}
-use Rattle.stack_inverse.specs.declared.row.TableRow.{TableRow}
-use Rattle.stack_inverse.specs.Columns.{RowSeen, number_with}
-use Rattle.stack_inverse.specs.RowsSeen.{seen_of, seen_at}
-use Rattle.stack_inverse.specs.Marks.{AreClean, least_negative}
-use Rattle.stack_inverse.proofs.PutRow.{seen_get}
 
 -- a negative number has the sign of one
 pub negative_is : (x : ℤ) → x <ℤ pos 0 → is_negative_sign (sign_of x) ≡ true
@@ -40,22 +32,3 @@ module _ (n m : ℕ) (p : ℕ → Bool) (l : m ≤ n) where
   none_left j b e =
       let s = least-some n p j (sym e) in
       sym (least_none m p (λ k q. s.none_before k (omega (arith, b, q))))
-
--- the objective row, where it is lent
-module _ (m : ℕ) (columns : List FirstColumn) (rows : List TableRow) (x : TableRow)
-    (height : length rows ≡ suc m) (e : x ≡ get_or rows m x) where
-  abbrev its : RowSeen → ℕ → ℤ
-  its s = number_with m columns s.numbers
-
-  is_it : seen_of x ≡ seen_at rows m
-  is_it = seen_get rows m x (omega (arith, height)) e
-
-  -- its marks
-  pub clean_lent : (n : ℕ) (words : List ℕ) → AreClean (its (seen_of x)) n words →
-      AreClean (its (seen_at rows m)) n words
-  clean_lent n words h = subst (λ (s : RowSeen). AreClean (its s) n words) is_it h
-
-  -- and its least column
-  pub least_lent : (r : Found ℕ) (n : ℕ) → TellsFound r (least_negative (its (seen_of x)) n) →
-      TellsFound r (least_negative (its (seen_at rows m)) n)
-  least_lent r n h = subst (λ (s : RowSeen). TellsFound r (least_negative (its s) n)) is_it h

@@ -8,11 +8,12 @@ use Rattle.stack_rational.proofs.Common.{zero-*ℤ}
 use Rattle.stack_bland.specs.Choice.{is_negative_sign}
 use Rattle.stack_inverse.specs.declared.columns.FirstColumn.{FirstColumn}
 use Rattle.stack_inverse.specs.declared.columns.Cell.{Cell}
-use Rattle.stack_inverse.specs.declared.marks.Marks.{Marks}
+use Rattle.stack_inverse.specs.declared.marking.Marking.{Marking}
 use Rattle.stack_rows.specs.RowForm.{number_at}
 use Rattle.stack_inverse.specs.Columns.{RowSeen, multipliers, revised_cell, revised_number}
 use Rattle.stack_inverse.specs.Columns.{cells_at, rises}
-use Rattle.stack_inverse.specs.Marks.{mark_at, AreUses, AreClean, AreMarkedOn}
+use Rattle.stack_inverse.specs.Marks.{mark_at, AreUses, AreClean}
+use Rattle.stack_inverse.specs.Marking.{AreMarkedOn}
 use Rattle.stack_inverse.proofs.Entered.{Rises, rises_of}
 use Rattle.stack_inverse.proofs.Made.{number_made}
 use Rattle.stack_inverse.proofs.PivotedZeros.{zero_over, same_sign, column_stays}
@@ -40,16 +41,16 @@ module _ (m : ℕ) (columns : List FirstColumn) (s t : ℕ → RowSeen) (r c : �
   row_nothing j lt e = sym (number_made m columns (t r).numbers j lt (rising j lt) (cells_at columns j) refl) ∙ e
 
   -- the objective row isn't negative in a column without a mark
-  pub columns_kept : (places uses new_places : List Marks) (marks new_marks touched : List ℕ) →
-      AreMarkedOn places uses marks (t r).numbers touched new_places new_marks → length uses ≡ multipliers m →
-      AreUses uses columns → AreClean (revised_number m columns s m) (length columns) marks →
-      AreClean (revised_number m columns t m) (length columns) new_marks
-  columns_kept places uses new_places marks new_marks touched k few used was j lt z =
+  pub columns_kept : (old new : Marking) → AreMarkedOn (t r).numbers old new →
+      length old.uses.items ≡ multipliers m → AreUses old.uses.items columns →
+      AreClean (revised_number m columns s m) (length columns) old.«open».words.items →
+      AreClean (revised_number m columns t m) (length columns) new.«open».words.items
+  columns_kept old new k few used was j lt z =
       ap is_negative_sign (same_sign (revised_number m columns t m j) (t m).under
       (revised_number m columns s m j) (s m).under (pt m) (ps m) stays)
       ∙ was j lt (k.marks_kept j z)
     where
-      none : (q : ℕ) → q < multipliers m → mark_at uses q j ≢ 0 → number_at (t r).numbers q ≡ pos 0
+      none : (q : ℕ) → q < multipliers m → mark_at old.uses.items q j ≢ 0 → number_at (t r).numbers q ≡ pos 0
       none q lq n = elim (ℤ_discrete (number_at (t r).numbers q) (pos 0)) [
         | yes p ↦ p
         | no d ↦ absurd (n (k.unused q j (omega (arith, lq, few)) d z))
@@ -59,5 +60,5 @@ module _ (m : ℕ) (columns : List FirstColumn) (s t : ℕ → RowSeen) (r c : �
       stays = column_stays (revised_cell m columns s) (revised_cell m columns t) r c is m j
           (λ e. omega (arith, l, e))
           (zero_over (revised_number m columns t r j) (t r).under (pt r) (row_nothing j lt
-          (nothing_sums (multipliers m) 0 (t r).numbers (λ q. mark_at uses q j ≢ 0) (cells_at columns j)
+          (nothing_sums (multipliers m) 0 (t r).numbers (λ q. mark_at old.uses.items q j ≢ 0) (cells_at columns j)
           (rises_of (multipliers m) 0 (cells_at columns j) (rising j lt)) none (used j lt))))

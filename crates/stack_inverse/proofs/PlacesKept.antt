@@ -1,29 +1,33 @@
 -- The marks of places after a pivot.
-use Rattle.std.proofs.Common.{◌≡◌, ◌≢◌, sym, ap, subst, ◌∙◌, ℕ, ◌<◌, ◌≤◌, Bool, true, false, cond, eqb}
-use Rattle.std.proofs.Common.{List, length, ◌/◌, arith, ℤ, pos, Result, Ok, Err, OnOk, is_ok, ◌⊎◌, inl, inr}
+use Rattle.std.proofs.Common.{◌≡◌, ◌≢◌, refl, sym, ap, subst, ◌∙◌, ℕ, suc, ◌<◌, ◌≤◌, Bool, true, false, cond, eqb}
+use Rattle.std.proofs.Common.{List, length, ◌/◌, arith, ℤ, pos, Result, Ok, Err, OnOk, is_ok}
 use Rattle.std.proofs.lemmas.Bool.Decides.{nat_tests}
 use lib.IntN.{ℤ_discrete}
 use Rattle.stack_rational.proofs.Common.{ℕ_discrete}
+use Rattle.stack_inverse.specs.declared.first.First.{First}
+use Rattle.stack_inverse.specs.declared.marking.Marking.{Marking}
 use Rattle.stack_inverse.specs.declared.marks.Marks.{Marks}
+use Rattle.stack_inverse.specs.declared.to_visit.ToVisit.{ToVisit}
 use Rattle.stack_rows.specs.RowForm.{number_at}
 use Rattle.stack_inverse.specs.RowBlock.{KeepsZeros}
 use Rattle.stack_inverse.specs.Columns.{RowSeen, multipliers}
+use Rattle.stack_inverse.specs.RowsSeen.{number_in_row}
 use Rattle.stack_inverse.specs.FirstTable.{AreFilled, load_at}
-use Rattle.stack_inverse.specs.Marks.{mark_in, mark_at, ArePlaces, AreMarkedOn, AreFull, AreClean}
+use Rattle.stack_inverse.specs.Marks.{mark_in, mark_at, ArePlaces, AreUses, AreClean}
+use Rattle.stack_inverse.specs.Marking.{AreMarks, AreMarkedOn, IsMarkedOn}
 
 -- whether a number is 0
 zero_or_not : (n : ℤ) → Dec (n ≡ pos 0)
 zero_or_not n = ℤ_discrete n (pos 0)
 
 -- a place without a mark has nothing after a pivot in row r
-pub places_kept : (m r : ℕ) (s t : ℕ → RowSeen) (places uses new_places : List Marks) (marks new_marks touched : List ℕ)
-    (f : ℕ → ℤ) → AreMarkedOn places uses marks (t r).numbers touched new_places new_marks →
-    length places ≡ multipliers m →
+pub places_kept : (m r : ℕ) (s t : ℕ → RowSeen) (old new : Marking) (f : ℕ → ℤ) →
+    AreMarkedOn (t r).numbers old new → length old.places.items ≡ multipliers m →
     ((q : ℕ) → number_at (s r).numbers q ≡ pos 0 → number_at (t r).numbers q ≡ pos 0) →
     ((i : ℕ) → i ≤ m → i ≢ r → KeepsZeros (s i).numbers (t r).numbers (f i) (t i).numbers) →
-    ((i : ℕ) → i ≤ m → mark_in touched i ≡ 0 → f i ≡ pos 0) → ArePlaces places m s →
-    ArePlaces new_places m t
-places_kept m r s t places uses new_places marks new_marks touched f k few own each told was i q li lq z =
+    ((i : ℕ) → i ≤ m → mark_in old.to_visit.touched.words.items i ≡ 0 → f i ≡ pos 0) →
+    ArePlaces old.places.items m s → ArePlaces new.places.items m t
+places_kept m r s t old new f k few own each told was i q li lq z =
     go (ℕ_discrete i r) (zero_or_not (number_at (t r).numbers q))
   where
     before : number_at (s i).numbers q ≡ pos 0
@@ -35,31 +39,38 @@ places_kept m r s t places uses new_places marks new_marks touched f k few own e
     go (no n) (no d) = (each i (omega (arith, li)) n).bare
         (told i (omega (arith, li)) (k.joined q i (omega (arith, lq, few)) d z)) q before
 
--- the marks after a pivot, told of equal lists
-pub marked_on_same : {p p' u u' new_places : List Marks} {o e new_marks : List ℕ} {w w' : List ℤ} →
-    p ≡ p' → u ≡ u' → w ≡ w' → AreMarkedOn p u o w e new_places new_marks →
-    AreMarkedOn p' u' o w' e new_places new_marks
-marked_on_same {p} {p'} {u} {u'} {new_places} {o} {e} {new_marks} {w} {w'} hp hu hw h =
-    subst (λ x. AreMarkedOn x u' o w' e new_places new_marks) hp
-    (subst (λ x. AreMarkedOn p x o w' e new_places new_marks) hu
-    (subst (λ x. AreMarkedOn p u o x e new_places new_marks) hw h))
+-- the marks after a pivot; where it wasn't done all is marked, and nothing is told
+pub marks_after : (f : First) (s t : ℕ → RowSeen) (old new : Marking) (row : List ℤ) (b : Bool) →
+    IsMarkedOn b row old new → AreMarks f s old → (b ≡ true → ArePlaces new.places.items f.rows t) →
+    (b ≡ true → (i : ℕ) → i ≤ f.rows → (t i).fits ≡ true) →
+    (b ≡ true → AreClean (number_in_row f (t f.rows)) (length f.columns.items) new.«open».words.items) →
+    AreMarks f t new
+marks_after f s t old new row b h k told fits clean = record {
+  places_long = few;
+  touched_long = touched;
+  open_long = room;
+  told = either b told (λ e i q li lq z.
+      let wide : f.rows / 64 < length new.to_visit.touched.words.items = omega (arith, touched) in
+      absurd (omega (arith, (h.full e).each_place q i (omega (arith, lq, few)) (omega (arith, li, wide)), z)));
+  used = subst (λ us. AreUses us f.columns.items) (sym h.uses) k.used;
+  each_fits = λ e. fits (sym (ap (λ (v : ToVisit). v.all_fit) h.to_visit) ∙ e);
+  clean = either b clean (λ e j l z.
+      let wide : length f.columns.items / 64 < length new.«open».words.items = omega (arith, room) in
+      absurd (omega (arith, (h.full e).each_mark j (omega (arith, l, wide)), z)));
+}
+  where
+    few : length new.places.items ≡ multipliers f.rows
+    few = h.places_long ∙ k.places_long
 
--- where all is marked nothing is told
-pub full_places : (m w : ℕ) (places : List Marks) (marks : List ℕ) (t : ℕ → RowSeen) →
-    AreFull places w marks → length places ≡ multipliers m → m / 64 < w → ArePlaces places m t
-full_places m w places marks t f few wide i q li lq z =
-    absurd (omega (arith, f.each_place q i (omega (arith, lq, few)) (omega (arith, li, wide)), z))
+    touched : length new.to_visit.touched.words.items ≡ suc (suc f.rows / 64)
+    touched = ap (λ (v : ToVisit). length v.touched.words.items) h.to_visit ∙ k.touched_long
 
-pub full_columns : (n w : ℕ) (places : List Marks) (marks : List ℕ) (f : ℕ → ℤ) → AreFull places w marks →
-    n / 64 < length marks → AreClean f n marks
-full_columns n w places marks f h room j l z =
-    absurd (omega (arith, h.each_mark j (omega (arith, l, room)), z))
+    room : length new.«open».words.items ≡ suc (length f.columns.items / 64)
+    room = h.open_long ∙ k.open_long
 
--- a pivot is done, and then this holds; or it isn't
-pub done_or_not : {T E P : Type 0} (r : Result T E) (b : Bool) → b ≡ is_ok r → OnOk r P →
-    ((b ≡ true) × P) ⊎ (b ≡ false)
-done_or_not (Ok x) b e h = inl (e, h)
-done_or_not (Err x) b e h = inr e
+    either : {P : Type 0} (b : Bool) → (b ≡ true → P) → (b ≡ false → P) → P
+    either true t f = t refl
+    either false t f = f refl
 
 -- a first row has something in its own artificial column alone
 pub first_told : (m : ℕ) (right : List ℤ) (s : ℕ → RowSeen) (places : List Marks) → AreFilled m right s →

@@ -1,12 +1,11 @@
 -- What is said of a search's answer has one proof at most.
-use Rattle.std.specs.Prelude.{ℕ, ◌<◌, Option, Some, None}
+use Rattle.std.specs.Prelude.{ℕ, Option, Some, None}
 use Rattle.std.specs.Coded.{coded_ℕ, coded_option}
-use native.Mathlib.Bridge.{le_prop}
 use base.Stored.{Coded-set}
 use mathlib.Core.HLevel.{Unit-prop}
 use Rattle.stack_bland.specs.declared.found.Found.{Found}
 use Rattle.stack_bland.specs.declared.found.Found.TheVariants.{GaveUp, Nothing, This}
-use Rattle.stack_bland.specs.Found.{TellsFound, IfFound}
+use Rattle.stack_bland.specs.Found.{TellsFound}
 
 -- two options of a number are equal in one way at most
 pub number_set : IsSet (Option ℕ)
@@ -17,9 +16,3 @@ pub TellsFound-prop : (r : Found ℕ) (o : Option ℕ) → IsProp (TellsFound r 
 TellsFound-prop GaveUp o = Unit-prop
 TellsFound-prop Nothing o = number_set None o
 TellsFound-prop (This x) o = number_set (Some x) o
-
--- a bound on what is found
-pub below_prop : (r : Found ℕ) (n : ℕ) → IsProp (IfFound r (λ x. x < n))
-below_prop GaveUp n = Unit-prop
-below_prop Nothing n = Unit-prop
-below_prop (This x) n = le_prop

@@ -5,4 +5,5 @@ pub mod RowsSeen
 pub mod Seen
 pub mod FirstTable
 pub mod Marks
+pub mod Marking
 pub mod FoundProps

@@ -43,17 +43,3 @@ AreClean f n words = (j : ℕ) → j < n → mark_in words j ≡ 0 → is_negati
 -- the least index below `among` at which a number is negative
 abbrev pub least_negative : (ℕ → ℤ) → ℕ → Option ℕ
 least_negative f among = least among (λ j. is_negative_sign (sign_of (f j)))
-
--- the marks after a pivot: the pivot's row is `row` now, and the rows in which its column had something were touched
-pub record AreMarkedOn (places uses : List Marks) (marks : List ℕ) (row : List ℤ) (touched : List ℕ)
-    (new_places : List Marks) (new_marks : List ℕ) : Type 0 where
-  pub places_kept : (r i : ℕ) → mark_at new_places r i ≡ 0 → mark_at places r i ≡ 0
-  pub joined : (r i : ℕ) → r < length places → number_at row r ≢ pos 0 → mark_at new_places r i ≡ 0 →
-      mark_in touched i ≡ 0
-  pub marks_kept : (j : ℕ) → mark_in new_marks j ≡ 0 → mark_in marks j ≡ 0
-  pub unused : (r j : ℕ) → r < length uses → number_at row r ≢ pos 0 → mark_in new_marks j ≡ 0 → mark_at uses r j ≡ 0
-
--- every bit is set, in each list of w words and in `marks`
-pub record AreFull (places : List Marks) (w : ℕ) (marks : List ℕ) : Type 0 where
-  pub each_place : (r i : ℕ) → r < length places → i / 64 < w → mark_at places r i ≡ 1
-  pub each_mark : (j : ℕ) → j / 64 < length marks → mark_in marks j ≡ 1

@@ -1,12 +1,13 @@
 -- What clauses see of the table of a run: its shape and its value.
-use Rattle.std.specs.Prelude.{◌≡◌, ◌≢◌, ℕ, ◌≤◌, get_or, ℤ, pos, unsigned_abs}
+use Rattle.std.specs.Prelude.{◌≡◌, ◌≢◌, ℕ, ◌≤◌, List, get_or, ℤ, pos, unsigned_abs}
 use Rattle.stack_rational.specs.Laws.{widest}
 use Rattle.stack_rows.specs.RowForm.{number_at}
 use Rattle.stack_algebra.specs.Fraction.{Fraction}
-use Rattle.stack_table.specs.Table.{Shape, Tabled}
+use Rattle.stack_algebra.proofs.OrderedFractions.{ordered_fractions}
+use Rattle.stack_table.specs.Table.{Shape, Tabled, with_objective}
 use Rattle.stack_table.specs.Block.{shape_of}
 use Rattle.stack_inverse.specs.declared.revised_table.RevisedTable.{RevisedTable}
-use Rattle.stack_inverse.specs.Columns.{multipliers, revised_number, AreEntered}
+use Rattle.stack_inverse.specs.Columns.{multipliers, cell_with, revised_number, AreEntered}
 use Rattle.stack_inverse.specs.RowsSeen.{seen_at, cells_of_rows}
 use Rattle.stack_inverse.specs.Marks.{mark_in}
 
@@ -29,7 +30,7 @@ pub record IsEntered (t : RevisedTable) (column : ℕ) : Type 0 where
   pub fit : (i : ℕ) → i ≤ t.first.rows → unsigned_abs (number_at t.entered.items i) ≤ unsigned_abs widest
   pub right_fits : (i : ℕ) → i ≤ t.first.rows → number_at t.entered.items i ≢ pos 0 →
       unsigned_abs (number_at (seen_at t.rows.items i).numbers (multipliers t.first.rows)) ≤ unsigned_abs widest
-  pub touched : (i : ℕ) → i ≤ t.first.rows → mark_in t.to_visit.touched.words.items i ≡ 0 →
+  pub touched : (i : ℕ) → i ≤ t.first.rows → mark_in t.marking.to_visit.touched.words.items i ≡ 0 →
       number_at t.entered.items i ≡ pos 0
 
 -- the cells as exact fractions by row and column, and the basic column of each row
@@ -38,3 +39,9 @@ table_of_revised t = record {
   cell = cells_of_rows t.first t.rows.items;
   basic = λ i. get_or t.basic.items i 0;
 }
+
+-- u is the table t, but that these numbers over d stand in the place of its objective row
+abbrev pub IsObjectivePut : (t : RevisedTable) (row : List ℤ) (d : ℤ) (u : RevisedTable) → Type 0
+IsObjectivePut t row d u = (f : ℕ → Fraction) →
+    ((j : ℕ) → cell_with t.first.rows t.first.columns.items row d j ≡ f j) →
+    table_of_revised u ≡ with_objective ordered_fractions (shape_of_revised t) (table_of_revised t) f

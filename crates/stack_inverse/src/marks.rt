@@ -1,19 +1,14 @@
-//! Marks, a bit each: a place without a mark has nothing. They spare products with numbers that are 0.
+//! Marks, a bit each: a place without a mark has nothing.
 
 ghost use Rattle.std.specs.Prelude.{◌≡◌, ◌≢◌, ℕ, suc, ◌<◌, ◌≤◌, ◌/◌, length, IfOk};
 ghost use Rattle.std.specs.List.{AllByRecursion};
 ghost use Rattle.stack_whole.specs.Limits.{most_rows};
-ghost use Rattle.stack_bland.specs.Found.{TellsFound, IfFound};
 ghost use Rattle.stack_inverse.specs.Columns.{multipliers, cells_at};
-ghost use Rattle.stack_inverse.specs.RowsSeen.{seen_of, number_in_row};
-ghost use Rattle.stack_inverse.specs.Marks.{mark_in, list_at, mark_at, HaveWords, AreUses, AreClean, least_negative};
+ghost use Rattle.stack_inverse.specs.Marks.{mark_in, list_at, mark_at, HaveWords, AreUses};
 
 use crate::columns::{Cell, FirstColumn};
 use crate::first::{COSTS, First};
-use crate::making::number_of;
-use crate::row::TableRow;
 use crate::stops::NoTable;
-use stack_bland::Found;
 use std::alloc::Global;
 
 /// Marks of places, a bit each.
@@ -144,20 +139,6 @@ pub fn fill_lists(lists: &mut [Marks])
     }
 }
 
-/// Marks what the list of any row of a column marks, and nothing else.
-pub fn mark_column(lists: &[Marks], cells: &[Cell], marks: &mut Marks)
-    requires wide { HaveWords lists.now (length marks.old.words.items) }
-    requires rows { AllByRecursion (λ x. x.row < length lists.now) cells.now }
-    ensures long { length marks.new.words.items ≡ length marks.old.words.items }
-    ensures nothing { (i : ℕ) → mark_in marks.new.words.items i ≡ 0 →
-        AllByRecursion (λ x. mark_at lists.now x.row i ≡ 0) cells.now }
-{
-    marks.clear();
-    for cell in cells {
-        marks.join(&lists[cell.row]);
-    }
-}
-
 /// Marks a column in the lists of its rows.
 fn mark_use(uses: &mut [Marks], cells: &[Cell], j: usize, width: usize)
     requires wide { HaveWords uses.old (suc (width / 64)) }
@@ -200,32 +181,4 @@ pub fn uses_of(alloc: Global, first: &First) -> Result<Vec<Marks>, NoTable>
     }
     mark_uses(uses.as_mut_slice(), first.columns.as_slice());
     Ok(uses)
-}
-
-/// The least plain column in which the objective row is negative, looked for among those with a mark. Clears the
-/// marks of those before it. Likely gives up if a sum of products doesn't fit.
-pub fn least_negative(first: &First, row: &TableRow, marks: &mut Marks) -> Found<usize>
-    requires long { length marks.old.words.items ≡ suc (length first.now.columns.items / 64) }
-    requires clean { AreClean (number_in_row first.now (seen_of row.now))
-        (length first.now.columns.items) marks.old.words.items }
-    ensures long { length marks.new.words.items ≡ length marks.old.words.items }
-    ensures clean { AreClean (number_in_row first.now (seen_of row.now))
-        (length first.now.columns.items) marks.new.words.items }
-    ensures value { TellsFound result (least_negative (number_in_row first.now (seen_of row.now))
-        (length first.now.columns.items)) }
-    ensures below { IfFound result (λ j. j < length first.now.columns.items) }
-{
-    let end = first.columns.len();
-    let mut j = marks.next(0, end);
-    while j < end {
-        match number_of(first, row, j) {
-            Some(number) => if number < 0 {
-                return Found::This(j);
-            },
-            None => return Found::GaveUp,
-        }
-        marks.remove(j);
-        j = marks.next(j + 1, end);
-    }
-    Found::Nothing
 }

@@ -1,6 +1,6 @@
 //! The table of a run by its multipliers.
 
-ghost use Rattle.std.specs.Prelude.{◌≡◌, ℕ, suc, ◌+◌, ◌<◌, ◌≤◌, ◌/◌, length, get_or, true};
+ghost use Rattle.std.specs.Prelude.{◌≡◌, ℕ, suc, ◌+◌, ◌<◌, ◌≤◌, length, get_or};
 ghost use Rattle.stack_rational.specs.Laws.{widest};
 ghost use Rattle.stack_whole.specs.Limits.{most_rows};
 ghost use Rattle.stack_table.specs.Table.{plain, columns};
@@ -8,22 +8,21 @@ ghost use Rattle.stack_table.specs.Block.{shape_of};
 ghost use Rattle.stack_inverse.specs.RowBlock.{AreFitting};
 ghost use Rattle.stack_inverse.specs.Columns.{multipliers, HaveWidths, AreFactorCosts};
 ghost use Rattle.stack_bland.specs.Found.{TellsFound, IfFound};
-ghost use Rattle.stack_inverse.specs.Marks.{HaveWords, ArePlaces, AreUses, AreClean, least_negative};
+ghost use Rattle.stack_inverse.specs.Marks.{least_negative};
+ghost use Rattle.stack_inverse.specs.Marking.{AreMarks};
 ghost use Rattle.stack_inverse.specs.RowsSeen.{seen_at, cells_of_rows, number_in_row};
-ghost use Rattle.stack_inverse.specs.FoundProps.{TellsFound-prop, below_prop};
+ghost use Rattle.stack_inverse.specs.FoundProps.{TellsFound-prop};
 ghost use Rattle.std.proofs.Props.{props};
 
 use crate::building::first_of;
 use crate::filling::{fill, first_basics, rows_of, zeros};
 use crate::first::{COSTS, First};
 use crate::making::{enter_column, number_of};
-use crate::marks::{Marks, least_negative, mark_column, uses_of};
+use crate::marking::Marking;
 use crate::objective::{clear_row, factor_row};
 use crate::pivoting::{pivot_rows, put_row};
-use crate::remarking::{first_places, mark_on};
 use crate::row::{PivotRow, TableRow};
 use crate::stops::NoTable;
-use crate::to_visit::ToVisit;
 use stack_bland::Found;
 use stack_rows::Row;
 use stack_table::{Problem, TurnRefusal, row_with};
@@ -49,15 +48,8 @@ pub struct RevisedTable {
     pivot: PivotRow,
     /// Room for the numbers of the entering column, row by row.
     entered: Vec<i128>,
-    /// For each multiplier a list of marks: a row without one has 0 there.
-    places: Vec<Marks>,
-    /// For each first row and each row of costs a list of marks: a plain column without one has no number there.
-    uses: Vec<Marks>,
-    /// The rows that the next pivot visits.
-    to_visit: ToVisit,
-    /// Marks of plain columns: in one without a mark the objective row isn't negative.
-    open: Marks,
-    /// The least plain column in which it is negative.
+    marking: Marking,
+    /// The least plain column in which the objective row is negative.
     least: Found<usize>,
     contacts: usize,
     has_factor: bool,
@@ -68,20 +60,9 @@ pub struct RevisedTable {
     ghost fitting: { AreFitting widest (cells_of_rows first rows.items) (seen_at rows.items) },
     ghost room: { length pivot.row.numbers.items ≡ suc (multipliers first.rows) },
     ghost one_number: { length entered.items ≡ suc (multipliers first.rows) },
-    ghost places_long: { length places.items ≡ multipliers first.rows },
-    ghost places_wide: { HaveWords places.items (suc (suc first.rows / 64)) },
-    ghost told: { ArePlaces places.items first.rows (seen_at rows.items) },
-    ghost uses_long: { length uses.items ≡ multipliers first.rows },
-    ghost uses_wide: { HaveWords uses.items (suc (length first.columns.items / 64)) },
-    ghost used: { AreUses uses.items first.columns.items } by { Prim.hlevel props },
-    ghost each_fits: { to_visit.all_fit ≡ true → (i : ℕ) → i ≤ first.rows → (seen_at rows.items i).fits ≡ true },
-    ghost touched_long: { length to_visit.touched.words.items ≡ suc (suc first.rows / 64) },
-    ghost open_long: { length open.words.items ≡ suc (length first.columns.items / 64) },
-    ghost clean: { AreClean (number_in_row first (seen_at rows.items first.rows))
-        (length first.columns.items) open.words.items },
+    ghost marks: { AreMarks first (seen_at rows.items) marking } by { Prim.hlevel props },
     ghost found: { TellsFound least (least_negative (number_in_row first (seen_at rows.items first.rows))
         (length first.columns.items)) } by { TellsFound-prop _ _ },
-    ghost found_below: { IfFound least (λ j. j < length first.columns.items) } by { below_prop _ _ },
     ghost basics: { length basic.items ≡ first.rows },
     ghost basics_in: { (i : ℕ) → i < first.rows →
         get_or basic.items i 0 < columns (shape_of first.rows contacts has_factor) },
@@ -98,6 +79,7 @@ impl RevisedTable {
     ghost use Rattle.stack_table.specs.Lent.{IsProblem, shape_of_problem, problem_of};
     ghost use Rattle.stack_table.specs.WrittenTable.{written_table};
     ghost use Rattle.stack_inverse.specs.Seen.{shape_of_revised, table_of_revised, number_in, under_in, IsEntered};
+    ghost use Rattle.stack_inverse.specs.Seen.{IsObjectivePut};
 
     /// The written table of a problem. All memory of a run is taken here. Likely given up if an entry, the sum of a
     /// column or that of the right sides doesn't fit.
@@ -120,25 +102,15 @@ impl RevisedTable {
             entered.as_mut_slice(),
             p.right.as_slice(),
         )?;
-        let places = first_places(alloc, p.rows + COSTS, p.rows + 1)?;
-        let uses = uses_of(alloc, &first)?;
-        let touched = Marks::none(alloc, p.rows + 1)?;
-        let mut open = Marks::none(alloc, first.columns.len())?;
-        open.fill();
-        let least = least_negative(&first, &rows[p.rows], &mut open);
+        let mut marking = Marking::of_first(alloc, &first)?;
+        let least = marking.least_negative(&first, rows.as_slice());
         Ok(RevisedTable {
             first,
             rows,
             basic,
             pivot,
             entered,
-            places,
-            uses,
-            to_visit: ToVisit {
-                touched,
-                all_fit: false,
-            },
-            open,
+            marking,
             least,
             contacts: p.contact.len(),
             has_factor: p.factor.is_some(),
@@ -196,15 +168,11 @@ impl RevisedTable {
         ensures table { table_of_revised self.new ≡ table_of_revised self.old }
         ensures entered { OnSome result (IsEntered self.new column) }
     {
-        mark_column(
-            self.places.as_slice(),
-            self.first.columns[column].cells.as_slice(),
-            &mut self.to_visit.touched,
-        );
+        self.marking.touch(&self.first, column);
         enter_column(
             &self.first,
             self.rows.as_slice(),
-            &mut self.to_visit.touched,
+            &mut self.marking.to_visit.touched,
             self.entered.as_mut_slice(),
             column,
         )
@@ -282,23 +250,34 @@ impl RevisedTable {
             self.rows.as_mut_slice(),
             &mut self.pivot,
             self.entered.as_slice(),
-            &self.to_visit,
+            &self.marking.to_visit,
             row,
             column,
         );
-        let ok = done.is_ok();
-        self.to_visit.all_fit = ok;
-        mark_on(
-            ok,
-            self.places.as_mut_slice(),
-            self.uses.as_slice(),
-            &self.to_visit.touched,
-            &mut self.open,
-            self.rows[row].row.numbers.as_slice(),
-        );
-        let last = self.first.rows;
-        self.least = least_negative(&self.first, &self.rows[last], &mut self.open);
+        self.marking
+            .mark_on(done.is_ok(), self.rows[row].row.numbers.as_slice());
+        self.least = self
+            .marking
+            .least_negative(&self.first, self.rows.as_slice());
         done
+    }
+
+    /// Puts the kept numbers over a denominator in the place of the objective row.
+    fn put_objective(&mut self, under: i128)
+        requires { pos 0 <ℤ under }
+        ensures shape { shape_of_revised self.new ≡ shape_of_revised self.old }
+        ensures table { IsObjectivePut self.old self.old.entered.items under self.new }
+    {
+        put_row(
+            self.rows.as_mut_slice(),
+            self.first.rows,
+            self.entered.as_slice(),
+            under,
+        );
+        self.marking.reopen();
+        self.least = self
+            .marking
+            .least_negative(&self.first, self.rows.as_slice());
     }
 
     /// Sets the objective row to 0, its right side too.
@@ -307,12 +286,8 @@ impl RevisedTable {
         ensures ok { table_of_revised self.new
             ≡ clear_objective ordered_fractions (shape_of_revised self.old) (table_of_revised self.old) }
     {
-        let last = self.first.rows;
         clear_row(self.entered.as_mut_slice());
-        self.to_visit.all_fit = false;
-        put_row(self.rows.as_mut_slice(), last, self.entered.as_slice(), 1);
-        self.open.fill();
-        self.least = least_negative(&self.first, &self.rows[last], &mut self.open);
+        self.put_objective(1);
     }
 
     /// Sets the objective row to that of the factor: the row in which it is basic, without its own cell; if it isn't
@@ -323,7 +298,6 @@ impl RevisedTable {
         ensures ok { OnSome result (table_of_revised self.new
             ≡ set_factor_objective ordered_fractions (shape_of_revised self.old) (table_of_revised self.old)) }
     {
-        let last = self.first.rows;
         let row = row_with(self.basic.as_slice(), self.contacts);
         let under = factor_row(
             &self.first,
@@ -332,15 +306,7 @@ impl RevisedTable {
             self.contacts,
             row,
         )?;
-        self.to_visit.all_fit = false;
-        put_row(
-            self.rows.as_mut_slice(),
-            last,
-            self.entered.as_slice(),
-            under,
-        );
-        self.open.fill();
-        self.least = least_negative(&self.first, &self.rows[last], &mut self.open);
+        self.put_objective(under);
         Some(())
     }
 }

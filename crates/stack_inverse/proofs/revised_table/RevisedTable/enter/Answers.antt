@@ -1,57 +1,53 @@
-use Rattle.std.proofs.Common.{◌≡◌, ◌≢◌, sym, ap, subst, subst₂, ◌∙◌, ℕ, ◌<◌, ◌≤◌, List, length, arith, ℤ, pos}
+use Rattle.std.proofs.Common.{◌≡◌, ◌≢◌, sym, ◌∙◌, subst, subst₂, ℕ, ◌≤◌, List, ℤ, pos}
 use Rattle.std.proofs.Common.{unsigned_abs}
 use Rattle.std.specs.List.{AllByRecursion}
 use Rattle.stack_rational.proofs.Common.{widest}
 use Rattle.stack_rows.specs.RowForm.{number_at}
-use Rattle.stack_inverse.specs.declared.columns.Cell.{Cell}
-use Rattle.stack_inverse.specs.declared.marks.Marks.{Marks}
 use Rattle.stack_inverse.specs.declared.row.TableRow.{TableRow}
 use Rattle.stack_inverse.specs.Columns.{multipliers, cells_at, AreEntered}
 use Rattle.stack_inverse.specs.RowsSeen.{seen_at}
-use Rattle.stack_inverse.specs.Marks.{mark_in, mark_at}
-use Rattle.stack_inverse.proofs.Entered.{rises_of, cells_below, cells_have}
-use Rattle.stack_inverse.proofs.Made.{cells_of, all_four}
-use Rattle.stack_inverse.proofs.PutRow.{written}
+use Rattle.stack_inverse.specs.Marks.{mark_in}
+use Rattle.stack_inverse.proofs.Made.{all_four}
+use Rattle.stack_inverse.proofs.PutRow.{written, written_long}
 use Rattle.stack_inverse.proofs.revised_table.RevisedTable.enter.Goals as goal
-
-pub mark_column-requires-clause-rows : goal.mark_column-requires-clause-rows
-mark_column-requires-clause-rows c =
-    let s = c.args.self.now in
-    let f = s.first in
-    let j = c.args.column in
-    let lt : j < length f.columns.items = omega (arith, c.requires, s.plain_count) in
-    let cells = c.as_slice-2.ensures.value ∙ cells_of f.columns.items j c.index.result.now lt c.index.ensures in
-    let M = multipliers f.rows in
-    subst₂ (λ (n : ℕ) (xs : List Cell). AllByRecursion (λ x. x.row < n) xs)
-    (sym (ap length c.as_slice.ensures.value ∙ s.places_long)) (sym cells)
-    (cells_below M 0 (cells_at f.columns.items j) (rises_of M 0 _ (f.first.rising j lt)))
 
 pub enter_column-requires-clause-nothing : goal.enter_column-requires-clause-nothing
 enter_column-requires-clause-nothing c = λ i l z.
     let s = c.args.self.now in
-    let f = s.first in
-    let j = c.args.column in
-    let lt : j < length f.columns.items = omega (arith, c.requires, s.plain_count) in
-    let cells = c.as_slice-2.ensures.value ∙ cells_of f.columns.items j c.index.result.now lt c.index.ensures in
-    let all = c.mark_column.ensures.nothing i z in
-    let M = multipliers f.rows in
-    cells_have M 0 (cells_at f.columns.items j) (λ r. mark_at s.places.items r i ≡ 0)
-    (λ r. number_at (seen_at c.as_slice-3.result.now i).numbers r ≡ pos 0)
-    (rises_of M 0 _ (f.first.rising j lt))
-    (λ r b h. ap (λ (rs : List TableRow). number_at (seen_at rs i).numbers r) c.as_slice-3.ensures.value
-    ∙ s.told i r l b h)
-    (subst₂ (λ (ls : List Marks) (xs : List Cell). AllByRecursion (λ x. mark_at ls x.row i ≡ 0) xs)
-    c.as_slice.ensures.value cells all)
+    subst (λ (rs : List TableRow). AllByRecursion (λ x. number_at (seen_at rs i).numbers x.row ≡ pos 0)
+    (cells_at s.first.columns.items c.args.column)) (sym c.as_slice.ensures.value)
+    (c.touch.ensures.nothing (seen_at s.rows.items) s.marks i l z)
 
 pub enter_column-requires-clause-marks_long : goal.enter_column-requires-clause-marks_long
-enter_column-requires-clause-marks_long c = c.mark_column.ensures.long ∙ c.args.self.now.touched_long
+enter_column-requires-clause-marks_long c =
+    (c.touch.ensures.marks (seen_at c.args.self.now.rows.items) c.args.self.now.marks).touched_long
+
+pub invariant_of-self-2-clause-one_number : goal.invariant_of-self-2-clause-one_number
+invariant_of-self-2-clause-one_number c =
+    let s = c.args.self.now in
+    written_long s.entered c.enter_column.new.entered c.as_mut_slice.ensures.value c.enter_column.auto.entered
+    ∙ s.one_number
+
+pub invariant_of-self-2-clause-marks : goal.invariant_of-self-2-clause-marks
+invariant_of-self-2-clause-marks c =
+    let s = c.args.self.now in
+    let k = c.touch.ensures.marks (seen_at s.rows.items) s.marks in
+    record {
+      places_long = k.places_long;
+      touched_long = c.enter_column.ensures.marks_long ∙ k.touched_long;
+      open_long = k.open_long;
+      told = k.told;
+      used = k.used;
+      each_fits = k.each_fits;
+      clean = k.clean;
+    }
 
 pub returns-clause-entered : goal.returns-clause-entered
 returns-clause-entered c =
     let s = c.args.self.now in
     let f = s.first in
     let told = c.enter_column.ensures in
-    let rows = c.as_slice-3.ensures.value in
+    let rows = c.as_slice.ensures.value in
     let is = sym (written s.entered c.enter_column.new.entered c.as_mut_slice.ensures.value
     c.enter_column.auto.entered) in
     all_four c.enter_column.result told.numbers told.fit told.right_fits told.told

@@ -1,4 +1,4 @@
-use Rattle.std.proofs.Common.{◌≡◌, ◌+◌, sym, ap, subst, ◌∙◌, ℕ, suc, ◌/◌, List, length, cond, false, true, arith}
+use Rattle.std.proofs.Common.{◌≡◌, ◌+◌, sym, ap, subst, ◌∙◌, ℕ, suc, List, length, cond, false, true, arith}
 use Rattle.std.proofs.Common.{ℤ, subst₂}
 use Rattle.stack_rational.proofs.Common.{with_items, ordered_fractions, changed}
 use Rattle.stack_table.specs.Table.{plain}
@@ -9,12 +9,11 @@ use Rattle.stack_inverse.specs.declared.row.TableRow.{TableRow}
 use Rattle.stack_inverse.specs.Columns.{multipliers, AreFactorCosts, HaveWidths, revised_cell}
 use Rattle.stack_inverse.specs.RowsSeen.{seen_at}
 use Rattle.stack_inverse.specs.FirstTable.{AreFilled}
-use Rattle.stack_inverse.specs.Columns.{RowSeen}
-use Rattle.stack_inverse.specs.RowsSeen.{seen_of, number_in_row}
-use Rattle.stack_inverse.specs.Marks.{HaveWords, ArePlaces, AreClean, least_negative}
+use Rattle.stack_inverse.specs.RowsSeen.{number_in_row}
+use Rattle.stack_inverse.specs.Marks.{least_negative}
+use Rattle.stack_inverse.specs.Marking.{AreMarks}
 use Rattle.stack_bland.specs.Found.{TellsFound}
-use Rattle.stack_inverse.proofs.PutRow.{written, written_long, seen_past, seen_get}
-use Rattle.stack_inverse.proofs.PlacesKept.{first_told}
+use Rattle.stack_inverse.proofs.PutRow.{written, written_long, seen_past}
 use Rattle.stack_inverse.proofs.FirstTables.{first_cell, first_basics, factor_is}
 use Rattle.stack_inverse.proofs.TurnedColumns.{factor_costs}
 use Rattle.stack_inverse.proofs.revised_table.RevisedTable.of_problem.Goals as goal
@@ -29,22 +28,17 @@ invariant_of-result c =
     let kept = c.as_mut_slice.ensures.value in
     let is = sym (written rows new kept c.fill.auto.rows) in
     let few : F.rows ≡ P.rows = c.in_ok-first.ensures.rows in
-    let tall : P.rows + 1 ≡ suc F.rows = omega (arith, few) in
     let wide : c.width_of-width.result ≡ suc (multipliers F.rows) =
     c.width_of-width.ensures ∙ ap (λ n. suc (multipliers n)) (sym few) in
     let long : length c.as_slice.result.now ≡ F.rows =
     ap length c.as_slice.ensures.value ∙ c.requires.right_long ∙ sym few in
-    let contacts : c.len-3.result ≡ length P.contact.items = c.len-3.ensures ∙ P.contact.ok.0 in
-    let count : length C ≡ plain (shape_of F.rows c.len-3.result c.is_some.result) =
+    let contacts : c.len-2.result ≡ length P.contact.items = c.len-2.ensures ∙ P.contact.ok.0 in
+    let count : length C ≡ plain (shape_of F.rows c.len-2.result c.is_some.result) =
     c.in_ok-first.ensures.long ∙ sym (λ z. contacts z
     + (ap (λ b. cond b 1 0) c.is_some.ensures ∙ factor_is P.factor) z) in
-    let height = written_long rows new kept c.fill.auto.rows ∙ c.in_ok-rows.ensures.height ∙ tall in
-    let last : seen_of c.index.result.now ≡ seen_at (with_items rows new).items F.rows =
-    seen_get (with_items rows new).items P.rows c.index.result.now (omega (arith, height, few)) c.index.ensures
-    ∙ ap (seen_at (with_items rows new).items) (sym few) in
-    let filled : AreFilled P.rows P.right.items (seen_at new) =
-    subst₂ (λ (m : ℕ) (right : List ℤ). AreFilled m right (seen_at new))
-    (ap length c.as_slice.ensures.value ∙ c.requires.right_long) c.as_slice.ensures.value c.in_ok-fill.ensures.filled in
+    let height = written_long rows new kept c.fill.auto.rows ∙ c.in_ok-rows.ensures.height
+    ∙ omega (arith, few) in
+    let lent = c.as_slice-2.ensures.value in
     record {
       plain_count = count;
       costs = subst₂ (λ m n. AreFactorCosts m C n) (sym few) (sym contacts)
@@ -56,23 +50,10 @@ invariant_of-result c =
       room = c.in_ok-zeros.ensures.width ∙ wide;
       one_number = written_long c.in_ok-entered.entered c.fill.new.numbers c.as_mut_slice-2.ensures.value
           c.fill.auto.numbers ∙ c.in_ok-entered.ensures ∙ omega (arith, few);
-      places_long = c.in_ok-places.ensures.long ∙ omega (arith, few);
-      places_wide = subst (λ w. HaveWords c.in_ok-places.places.items (suc (w / 64))) tall c.in_ok-places.ensures.wide;
-      told = subst₂ (λ (m : ℕ) (rs : List TableRow). ArePlaces c.in_ok-places.places.items m (seen_at rs)) (sym few) is
-          (first_told P.rows P.right.items (seen_at new) c.in_ok-places.places.items filled
-          (λ r l. c.in_ok-places.ensures.diagonal r (omega (arith, l))));
-      uses_long = c.in_ok-uses.ensures.long;
-      uses_wide = c.in_ok-uses.ensures.wide;
-      used = c.in_ok-uses.ensures.uses;
-      each_fits = λ e. let b : false ≡ true = e in absurd cc;
-      touched_long = c.in_ok-touched.ensures ∙ ap (λ w. suc (w / 64)) tall;
-      open_long = c.least_negative-least.ensures.long ∙ c.fill-2.ensures.long ∙ c.in_ok-open.ensures
-          ∙ ap (λ w. suc (w / 64)) (c.len-2.ensures ∙ F.columns.ok.0);
-      clean = subst (λ (x : RowSeen). AreClean (number_in_row F x) (length C)
-          c.least_negative-least.new.marks.words.items) last c.least_negative-least.ensures.clean;
-      found = subst (λ (x : RowSeen). TellsFound c.least_negative-least.result (least_negative (number_in_row F x)
-          (length C))) last c.least_negative-least.ensures.value;
-      found_below = c.least_negative-least.ensures.below;
+      marks = subst (λ (rs : List TableRow). AreMarks F (seen_at rs) c.least_negative-least.new.self) lent
+          c.least_negative-least.ensures.marks;
+      found = subst (λ (rs : List TableRow). TellsFound c.least_negative-least.result (least_negative
+          (number_in_row F (seen_at rs F.rows)) (length C))) lent c.least_negative-least.ensures.found;
       basics = c.in_ok-basic.ensures.long ∙ sym few;
       basics_in = λ i l. omega (
         arith,
@@ -81,6 +62,26 @@ invariant_of-result c =
         l,
       );
     }
+
+pub least_negative-least-requires-clause-height : goal.least_negative-least-requires-clause-height
+least_negative-least-requires-clause-height c =
+    let rows = c.in_ok-rows.rows in
+    ap length c.as_slice-2.ensures.value
+    ∙ written_long rows c.fill.new.rows c.as_mut_slice.ensures.value c.fill.auto.rows
+    ∙ c.in_ok-rows.ensures.height ∙ omega (arith, c.in_ok-first.ensures.rows)
+
+pub least_negative-least-requires-clause-marks : goal.least_negative-least-requires-clause-marks
+least_negative-least-requires-clause-marks c =
+    let P = c.args.p.now in
+    let rows = c.in_ok-rows.rows in
+    let new = c.fill.new.rows in
+    let is = sym (written rows new c.as_mut_slice.ensures.value c.fill.auto.rows) in
+    let filled : AreFilled P.rows P.right.items (seen_at new) =
+    subst₂ (λ (m : ℕ) (right : List ℤ). AreFilled m right (seen_at new))
+    (ap length c.as_slice.ensures.value ∙ c.requires.right_long) c.as_slice.ensures.value c.in_ok-fill.ensures.filled in
+    c.in_ok-marking.ensures P.right.items (seen_at c.as_slice-2.result.now)
+    (subst₂ (λ (m : ℕ) (rs : List TableRow). AreFilled m P.right.items (seen_at rs)) (sym c.in_ok-first.ensures.rows)
+    (is ∙ sym c.as_slice-2.ensures.value) filled)
 
 pub returns-clause-ok : goal.returns-clause-ok
 returns-clause-ok c =
