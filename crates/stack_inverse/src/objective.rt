@@ -28,7 +28,8 @@ pub fn set_only(row: &mut [i128], column: usize, number: i128)
 }
 
 /// The numbers of a row whose cell in the column has to be 1, and once the costs of phase 3, with its denominator;
-/// without a row these costs alone, over 1. Gives up if that cell isn't 1, and isn't likely to otherwise.
+/// without a row these costs alone, over 1. Gives up if that cell isn't 1, if a product or a partial sum of its number
+/// doesn't fit, or if the multiplier of these costs plus the denominator doesn't.
 pub fn factor_row(
     first: &First,
     rows: &[TableRow],

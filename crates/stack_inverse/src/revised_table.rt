@@ -291,7 +291,9 @@ impl RevisedTable {
     }
 
     /// Sets the objective row to that of the factor: the row in which it is basic, without its own cell; if it isn't
-    /// basic, -1 in its column alone. Isn't likely to give up.
+    /// basic, -1 in its column alone. Gives up only if it is basic: if a product or a partial sum of the row's number
+    /// in the factor's column, or the row's multiplier of the costs of phase 3 plus its denominator, doesn't fit 128
+    /// bits, or if the row's cell in that column isn't 1, which it is in a run.
     pub fn set_factor_objective(&mut self) -> Option<()>
         requires { (shape_of_revised self.old).factors ≡ 1 }
         ensures shape { OnSome result (shape_of_revised self.new ≡ shape_of_revised self.old) }
