@@ -210,6 +210,11 @@ class Changed(unittest.TestCase):
         model = post([floor, swaying, PUSH], [2, 0])
         self.assertEqual(self.loads(changes.missing(floor), model), [PUSH])
         self.assertEqual(self.loads(changes.missing(floor), model.turned()), [PUSH.times(-1)])
+        # Of two beams as heavy the other one still sways.
+        beam, other = replace(floor, at=[0, 4]), replace(swaying, at=[0, 4])
+        both = replace(model, loads=[floor, beam, other, swaying])
+        self.assertEqual(self.loads(changes.missing(floor), both), [beam, other])
+        self.assertEqual(self.loads(changes.missing(beam), both), [floor, swaying])
         self.assertEqual(self.loads(changes.heavier(changes.MORE, None, True), model),
                          [replace(floor, force=[0, -33]), replace(swaying, force=[66, 0]), PUSH.times(5)])
 

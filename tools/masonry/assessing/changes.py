@@ -178,9 +178,16 @@ def sways_with(model: Model, dead: Load, live: Load) -> bool:
 
 
 def missing(load: Load) -> Made:
+    """Without a dead load, and without what it takes of the sway: of several live loads that may be that, the one at
+    its place, or else the first."""
     def made(of: Drawing) -> Drawing:
-        return of.but(replace(of.model, loads=[one for one in of.model.loads
-                                               if one != load and not sways_with(of.model, load, one)]))
+        own = sorted((live for live in of.model.loads if sways_with(of.model, load, live)),
+                     key=lambda live: [*live.at] != [*load.at])
+        loads = [*of.model.loads]
+        for one in [load, *own[:1]]:
+            if one in loads:
+                loads.remove(one)
+        return of.but(replace(of.model, loads=loads))
     return made
 
 
