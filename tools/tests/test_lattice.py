@@ -8,8 +8,9 @@ from collections.abc import Sequence
 
 import helpers  # puts tools/ where the modules are found
 
-from masonry.lp.lattice import SHADOW, Lattice, Sums, Vector, divisible, packed, signs, unpacked
+from masonry.lp.lattice import SHADOW, Lattice, NoVector, Vector, divisible, packed, signs, unpacked
 from masonry.lp.short_certificates import least
+from masonry.lp.supports import Sums, Supports
 
 
 def area(rows: Sequence[Sequence[int]]) -> int:
@@ -77,6 +78,49 @@ class Loads(unittest.TestCase):
 
     def test_a_load_that_nothing_carries(self) -> None:
         self.assertEqual(Lattice([{0: 1}], [[0], [1]]).reaching([{1: 1}]), [])
+
+
+class Quick(unittest.TestCase):
+    """Lattices that keep fewer vectors. In a chain of single rows each column has sums in two neighbours."""
+
+    def test_the_order_of_a_chain(self) -> None:
+        # Row 2 alone has a column of its own. It supports row 1, and that row 0. None is poor: 1 reaches all that 2 do.
+        found = Supports([{0: 1, 1: -1}, {0: 2, 1: 1}, {1: 1, 2: -1}, {2: 1}], [[0], [1], [2]])
+        self.assertEqual((found.order, found.poor), ([0, 1, 2], set()))
+
+    def test_a_poor_group(self) -> None:
+        # Row 1 reaches even sums by its own column, and all with the column that it shares. So row 0 stands by itself.
+        found = Supports([{0: 1, 1: 1}, {1: 2}], [[0], [1]])
+        self.assertEqual((found.order, found.poor), ([0, 1], {1}))
+        # Of two groups that are supported, the poorer comes first in the order, since others may enrich it.
+        found = Supports([{0: 1}, {1: 3}, {0: 1, 1: 1}], [[0], [1]])
+        self.assertEqual((found.order, found.poor), ([1, 0], set()))
+
+    def test_no_support(self) -> None:
+        # Nothing touches row 1; two rows of a group have one column.
+        self.assertEqual(Supports([{0: 1}], [[0], [1]]).order, [])
+        self.assertEqual(Supports([{0: 1, 1: 1}], [[0, 1]]).order, [])
+
+    def test_a_chain_is_cleared(self) -> None:
+        columns: list[Sums] = [{0: 1}]
+        for row in range(15):
+            columns += [{row: 1, row + 1: -1}, {row: 3, row + 1: -5}]
+        found = Lattice(columns, [[row] for row in range(16)], quick=True)
+        self.assertEqual(found.basis, [])
+        whole = [7 * number % 5 for number in range(len(columns))]
+        near = found.near(whole, {15: 4})
+        self.assertEqual([sum(x * column.get(row, 0) for x, column in zip(near, columns)) for row in range(16)],
+                         [0] * 15 + [-4])
+
+    def test_what_a_sparse_lattice_misses(self) -> None:
+        # Row 2 reaches 4 by its own column. The only vectors that reach less there are combinations of one that
+        # touches row 1 alone, once row 0 is used up, and of the column that rows 1 and 2 share.
+        columns = [{2: 4}, {1: 1, 2: 1}, {0: 1, 1: 1}, {0: 1, 1: 2}, *({row: 1} for row in range(3, 8))]
+        groups = [[row] for row in range(8)]
+        with self.assertRaises(NoVector):
+            Lattice(columns, groups, quick=True).near([0] * 9, {2: 1})
+        x, y, z, w, *_ = Lattice(columns, groups).near([0] * 9, {2: 1})
+        self.assertEqual((z + w, y + z + 2 * w, 4 * x + y), (0, 0, -1))
 
 
 class Packed(unittest.TestCase):

@@ -24,8 +24,9 @@ import read
 import solve
 from masonry import model as models, numbers, program
 from masonry.lp import lattice, linear, short_certificates as short
-from masonry.lp.lattice import Lattice, Reduction, Step, Vector, grows, inverted
+from masonry.lp.lattice import Lattice, Reduction, Step, Vector, inverted
 from masonry.lp.programs import Found, Lacking, NoAnswer, Program, Row, Sign
+from masonry.lp.supports import grows
 from masonry.model import Block, Load, Material, Model
 from masonry.questions.case import Case
 from masonry.units import Dead, Scale, scale_of
@@ -406,6 +407,27 @@ class Short(Answers):
         rounding = short.Rounding(self.pushed, inner.amounts, self.pushed.dead)
         self.assertEqual([len(one.bearings) for one in rounding.unknowns], [1, 1, 2])
         self.balances(*rounding.least())
+
+    def test_a_quick_lattice_and_then_a_thorough_one(self) -> None:
+        inner = linear.inner(self.pushed, self.pushed.dead)
+        assert inner is not None
+        made: list[bool] = []
+
+        def refused(rounding: short.Rounding) -> short.Forces:
+            made.append(rounding.lattice.quick)
+            if rounding.lattice.quick:
+                raise lattice.NoVector
+            return least(rounding)
+
+        least = short.Rounding.least
+        self.balances(*short.short_forces(self.pushed, inner.amounts, self.pushed.dead))
+        with mock.patch.object(short.Rounding, "least", refused):
+            self.balances(*short.short_forces(self.pushed, inner.amounts, self.pushed.dead))
+        self.assertEqual(made, [True, False])
+        with mock.patch.object(short, "SHORT", 1), mock.patch.object(short.Rounding, "least", autospec=True,
+                                                                    side_effect=least) as tried:
+            self.balances(*short.short_forces(self.pushed, inner.amounts, self.pushed.dead))
+        self.assertEqual([one.args[0].lattice.quick for one in tried.call_args_list], [True, False])
 
 
 class Refusals(Answers):

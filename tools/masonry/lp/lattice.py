@@ -13,20 +13,22 @@ exact. Its unknowns are worked out where they are asked for.
 import random
 import sys
 from array import array
-from collections.abc import Iterable, Mapping, Sequence
-from functools import cached_property
+from collections.abc import Iterable, Sequence
+from functools import cached_property, lru_cache
 from heapq import heappop, heappush
-from itertools import count, repeat
+from itertools import count
 from math import gcd
 from operator import mul
 from typing import TypeVar
 
-TOGETHER = 24  # so many vectors are reduced together, or a few more where the sums need them
-SHADOW = 64  # the numbers of a shadow
+from masonry.lp.supports import Echelon, Sums, Supports, grows
+
+TOGETHER, QUICK_TOGETHER = 24, 8  # so many vectors are reduced together, or a few more where the sums need them
+SHADOW, QUICK_SHADOW = 64, 32  # the numbers of a shadow
+FEW_POOR = 8  # a quick lattice is sparse if at most one group of so many is poor
 LIGHT = 40  # bits of the least weight of sums beside lengths
 SURE = 2**46  # multiples below this, found in floating point, are right to a small part of 1
 
-Sums = Mapping[int, int]  # by the rows' numbers, without zeros
 Number = TypeVar("Number", int, float)
 
 
@@ -197,27 +199,21 @@ class Reduction:
             lam[i][k - 1] = (new * x + side * lam[i][k]) // d[k + 1]
         d[k] = new
 
+    # What Gram and Schmidt make of the reduced basis, in floating point.
+
+    @cached_property
+    def mu(self) -> list[list[float]]:
+        return [[x / y for x, y in zip(row[:k], self.d[1:])] for k, row in enumerate(self.lam)]
+
+    @cached_property
+    def squares(self) -> list[float]:
+        return [y / x for x, y in zip(self.d, self.d[1:])]
+
+
+reduced = lru_cache(1000)(Reduction)  # of products that may come again
+
 
 # Sums
-
-
-def grows(echelon: list[list[int] | None], sums: list[int]) -> bool:
-    """Takes sums into the lattice of those reached, and says whether it grew. The lattice is held in echelon form, as
-    in Hermite's normal form: a row, or None, for each place."""
-    grew = False
-    for place, row in enumerate(echelon):
-        if row is None:
-            if sums[place]:
-                echelon[place] = sums
-                return True
-            continue
-        before = abs(row[place])
-        while sums[place]:
-            q = row[place] // sums[place]
-            row, sums = sums, [x - q * y for x, y in zip(row, sums)]
-        grew = grew or abs(row[place]) != before
-        echelon[place] = row
-    return grew
 
 
 class Step:
@@ -231,8 +227,7 @@ class Step:
                  divisor: int) -> None:
         self.group, self.vectors, self.inverse, self.divisor = group, vectors, inverse, divisor
         self.plain = sum(not any(vector.at(group)) for vector in vectors)  # how many have no sums in the group
-        self.mu = [[x / y for x, y in zip(row[:k], reduction.d[1:])] for k, row in enumerate(reduction.lam)]
-        self.squares = [y / x for x, y in zip(reduction.d, reduction.d[1:])]
+        self.mu, self.squares = reduction.mu, reduction.squares
         self.shadows = [vector.floats for vector in vectors[:self.plain]]
 
     def multiples(self, vector: Vector) -> list[int]:
@@ -330,14 +325,18 @@ def inverted(columns: Sequence[Sequence[int]], size: int) -> tuple[list[list[int
 def parted(group: Sequence[int], vectors: list[Vector], bits: int) -> tuple[Step, int]:
     """Vectors with sums in a group, reduced together, as a step; and the bits of the weight with which that was done.
 
-    The sums count as a part of a vector's length. Where they weigh enough, the pivots come last.
+    The sums count as a part of a vector's length. Where they weigh enough, the pivots come last. Vectors of an unknown
+    each are at right angles. Those of blocks of one shape have the same products, which are reduced once.
     """
-    products = [[dot(u.shadow, v.shadow) for v in vectors[:k + 1]] for k, u in enumerate(vectors)]
+    alone = all(vector.unknown is not None for vector in vectors)
+    products = [[v.square if u is v else 0 if alone else dot(u.shadow, v.shadow) for v in vectors[:k + 1]]
+                for k, u in enumerate(vectors)]
     sums = [vector.at(group) for vector in vectors]
     columns = [*zip(*sums)]
     while True:
-        weighed = [[x + (dot(s, t) << bits) for x, t in zip(row, sums)] for row, s in zip(products, sums)]
-        reduction = Reduction(weighed)
+        weighed = tuple([tuple([x + (dot(s, t) << bits) for x, t in zip(row, sums)])
+                         for row, s in zip(products, sums)])
+        reduction = reduced(weighed) if alone else Reduction(weighed)
         ends = [[dot(times, column) for column in columns] for times in reduction.rows]
         plain = sum(not any(end) for end in ends)
         inverse, divisor = inverted(ends[plain:], len(group))
@@ -364,21 +363,26 @@ def signs(unknown: int) -> list[int]:
 class Lattice:
     """The whole vectors of unknowns that have no sums. Each row is in one of the groups."""
 
-    def __init__(self, columns: Sequence[Sums], groups: Sequence[Sequence[int]],
-                 lengths: Iterable[int] | None = None) -> None:
-        """A column is a dictionary from rows to amounts. An unknown's length is 1 where none is given."""
-        self.columns, self.groups = columns, groups
+    def __init__(self, columns: Sequence[Sums], groups: Sequence[Sequence[int]], quick: bool = False) -> None:
+        """A column is a dictionary from rows to amounts. A quick lattice is made in less time, and its vectors are
+        longer. Where most groups stand by themselves it is sparse: it keeps no vector that touches only these, so it
+        may not clear all sums that can be cleared, and has no basis."""
+        self.columns, self.groups, self.quick = columns, groups, quick
         self.steps: list[Step] = []
         self.bits = 0  # of the weight of sums at the last step
         self.basis: list[Vector] = []
         self.group_of = {row: g for g, group in enumerate(groups) for row in group}
-        units = []
-        for j, (column, length) in enumerate(zip(columns, lengths or repeat(1))):
-            units.append(Vector(column, [length * sign for sign in signs(j)], unknown=j))
-        self.reduce(units)
+        numbers = QUICK_SHADOW if quick else SHADOW
+        self.reduce([Vector(column, signs(j)[:numbers], unknown=j) for j, column in enumerate(columns)])
+
+    def supports(self) -> Supports | None:
+        """The order of the groups of a sparse lattice."""
+        found = Supports(self.columns, self.groups) if self.quick else None
+        return found if found and found.order and FEW_POOR * len(found.poor) <= len(self.groups) else None
 
     def reduce(self, fresh: list[Vector]) -> None:
-        """Uses up the groups, the one that the fewest vectors touch first."""
+        """Uses up the groups: in the order of their supports, or else the one that the fewest vectors touch first."""
+        supports = self.supports()
         touching: list[dict[int, Vector]] = [{} for _ in self.groups]
         left = set(range(len(self.groups)))
         while True:
@@ -390,13 +394,15 @@ class Lattice:
                     self.basis.append(vector)
             if not left:
                 return
-            g = min(left, key=lambda g: (len(touching[g]), g))
+            g = supports.order[-len(left)] if supports else min(left, key=lambda g: (len(touching[g]), g))
             left.remove(g)
             taken = sorted(touching[g].values(), key=lambda vector: vector.square)
             for vector in taken:
                 for other in self.reached(vector):
                     del touching[other][vector.number]
             fresh = self.cleared(self.groups[g], taken)
+            if supports:
+                fresh = [vector for vector in fresh if not supports.poor.isdisjoint(self.reached(vector))]
 
     def reached(self, vector: Vector) -> set[int]:
         """The groups in which a vector has sums."""
@@ -408,9 +414,10 @@ class Lattice:
         others: list[Vector] = []
         reached: list[list[int] | None] = [None] * len(group)
         bits = sum(max((abs(vector.sums.get(row, 0)) for vector in taken), default=0).bit_length() for row in group)
+        most = QUICK_TOGETHER if self.quick else TOGETHER
         for vector in taken:
             grew = grows(reached, vector.at(group))
-            (first if grew or len(first) < min(6 + bits // 2, TOGETHER) else others).append(vector)
+            (first if grew or len(first) < min(6 + bits // 2, most) else others).append(vector)
         step, self.bits = parted(group, first, max(LIGHT, self.bits // 2))
         self.steps.append(step)
         return step.vectors[:step.plain] + [step.cleared(vector) for vector in others]

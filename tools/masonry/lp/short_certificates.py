@@ -3,6 +3,7 @@
 Nothing here is proved: `check` judges what is found.
 """
 from collections.abc import Callable, Iterator, Sequence
+from contextlib import suppress
 from dataclasses import dataclass
 from fractions import Fraction
 from functools import cached_property
@@ -18,6 +19,7 @@ SMALL = 60  # so many vectors of a basis can be reduced all together
 ROOM = 2**10  # for the sums of products that `check` adds up
 FINE = 127  # bits of the fractions of given amounts that are used
 FEW = 40  # bits of a scale that mostly is enough
+SHORT = 2**50  # where forces are below this, `check` has room for all its sums and products
 MORE = 8  # bits by which other forces may need a greater scale
 Made = TypeVar("Made")
 Number = TypeVar("Number", int, Fraction)
@@ -57,14 +59,16 @@ class Unknown:
         return round((first - second) * (1 << FINE))
 
 
-Lattices = dict[tuple[tuple[tuple[int, ...], Part], ...], Lattice]  # by the bearings and parts of their unknowns
+# By the bearings and parts of their unknowns, and whether they are quick.
+Lattices = dict[tuple[bool, tuple[tuple[tuple[int, ...], Part], ...]], Lattice]
 
 
-def lattice_of(structure: Structure, found: Sequence[Unknown], kept: Lattices) -> Lattice:
+def lattice_of(structure: Structure, found: Sequence[Unknown], kept: Lattices, quick: bool = False) -> Lattice:
     """The lattice of forces without a load, made once."""
-    key = tuple((tuple(one.bearings), one.part) for one in found)
+    key = quick, tuple((tuple(one.bearings), one.part) for one in found)
     if key not in kept:
-        kept[key] = Lattice([structure.column(one.bearings[0], one.part) for one in found], structure.blocks)
+        columns = [structure.column(one.bearings[0], one.part) for one in found]
+        kept[key] = Lattice(columns, structure.blocks, quick)
     return kept[key]
 
 
@@ -81,8 +85,8 @@ class Rounding:
     is a multiple of the least at which any whole forces carry the load.
     """
 
-    def __init__(self, structure: Structure, amounts: Amounts, load: Sequence[int], kept: Lattices | None = None
-                 ) -> None:
+    def __init__(self, structure: Structure, amounts: Amounts, load: Sequence[int], kept: Lattices | None = None,
+                 quick: bool = False) -> None:
         self.structure = structure
         used: dict[int, list[Part]] = {}
         parts: dict[int, tuple[Fraction, Fraction]] = {}
@@ -98,7 +102,7 @@ class Rounding:
         self.fine = [round(one.amount() * (1 << FINE)) for one in self.unknowns]
         self.longest = max((int(abs(x)) for part in parts.values() for x in part), default=0).bit_length()
         self.load = {row: x for row, x in enumerate(load) if x}
-        self.lattice = lattice_of(structure, self.unknowns, {} if kept is None else kept)
+        self.lattice = lattice_of(structure, self.unknowns, {} if kept is None else kept, quick)
         self.unit = abs(self.reaching()[-1])
         self.bits = 0  # the scale at which forces were found last
         self.multiple = 1  # how many times the least scale should do, after what was tried last
@@ -178,7 +182,7 @@ class Rounding:
         if found and self.unit * self.multiple < found[0]:
             found = self.of(self.unit * self.multiple) or found
         if found is None:
-            if len(self.lattice.basis) < SMALL:
+            if not self.lattice.quick and len(self.lattice.basis) < SMALL:
                 self.refute()
             raise NotFound("no forces of 127 bits were found")
         return found
@@ -248,6 +252,14 @@ class Tried:
     first, and a lesser one isn't."""
     bits: int | None = None
 
+    def forces(self, rounding: Rounding) -> Forces:
+        """Those at this scale, or else at the least that works."""
+        if self.bits is not None and (first := rounding.at(self.bits)):
+            return first
+        found = rounding.least()
+        self.bits = rounding.bits + MORE
+        return found
+
 
 def exact_forces(structure: Structure, amounts: Amounts, times: int = 1) -> Forces | None:
     """A scale and the whole parts of all bearings that are exactly these amounts; None where they are too long. In the
@@ -268,16 +280,17 @@ def exact_forces(structure: Structure, amounts: Amounts, times: int = 1) -> Forc
 def short_forces(structure: Structure, amounts: Amounts, load: Sequence[int], tried: Tried | None = None,
                  kept: Lattices | None = None) -> Forces:
     """A scale and whole parts of all bearings, near given amounts, that carry the scale times a whole load. The
-    lattices that are made are kept, by the unknowns, for structures with the same bearings."""
+    lattices that are made are kept, by the unknowns, for structures with the same bearings. If a quick lattice finds
+    none, or long ones, a thorough one is made."""
+    tried, kept = tried or Tried(), {} if kept is None else kept
+    before = tried.bits
+    with suppress(NoVector, NotFound, ArithmeticError):
+        scale, parts = tried.forces(Rounding(structure, amounts, load, kept, quick=True))
+        if max(scale, *(abs(x) for part in parts for x in part)) < SHORT:
+            return scale, parts
+    tried.bits = before
     try:
-        rounding = Rounding(structure, amounts, load, kept)
-        first = rounding.at(tried.bits) if tried and tried.bits is not None else None
-        if first:
-            return first
-        found = rounding.least()
-        if tried:
-            tried.bits = rounding.bits + MORE
-        return found
+        return tried.forces(Rounding(structure, amounts, load, kept))
     except NoVector:
         raise NotFound("no whole forces balance") from None
 
