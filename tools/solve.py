@@ -97,10 +97,12 @@ from masonry.console import Answer, Ended, Progress, Refused, Words
 from masonry.lp.programs import MISSING
 from masonry.model import Model
 from masonry.numbers import fraction, whole
-from masonry.questions import between, falls, frictions, ranges, results, slides, stages
+from masonry.questions import results
 from masonry.questions.case import Case
 from masonry.questions.voice import Voice
 from masonry.units import Given, Scale, Size, dead_of, factor_in, scale_of, with_units
+
+# The module of a question is imported where it is asked, since that takes time.
 
 NO_LIVE = Answer(9, "", "no live load")
 MICRO = 2  # how far two shares may be apart, in millionths, if no number is given
@@ -119,11 +121,15 @@ def load(name: str, words: list[str], progress: Progress) -> int:
 
 
 def wide_range(name: str, words: list[str], progress: Progress) -> int:
+    from masonry.questions import ranges
+
     case = live_case(name, words, "range CERT [MICRO] [kN FORCE]", progress)
     return 0 if ranges.ranged(case) else 70
 
 
 def wide_between(name: str, words: list[str], progress: Progress) -> int:
+    from masonry.questions import between
+
     words, given = with_units(words, 1, lengths=False)
     cert, rest = words[0] if words else "", words[1:]
     kind = rest[0] if rest else ""
@@ -132,7 +138,7 @@ def wide_between(name: str, words: list[str], progress: Progress) -> int:
     accepted(name)
     model, scale = models.read(name), scale_of(models.text_of(name))
     if kind:
-        question = tie_or_prop(model, kind, rest[1:])
+        question = between.of_words(model, kind, rest[1:])
     elif model.has_live():
         question = between.Question(model, dead=dead_of(models.text_of(name)))
     else:
@@ -153,21 +159,9 @@ def is_one(name: str, other: str) -> bool:
     return "\0" not in other and os.path.realpath(name) == os.path.realpath(other)
 
 
-def tie_or_prop(model: Model, kind: str, words: list[str]) -> between.Question:
-    """The question of the words after `tie` or `prop`."""
-    count = 6 if kind == "tie" else 5
-    share = fraction(words[count], words[count + 1]) if words[count:] else Fraction(0)
-    if kind == "tie":
-        return between.tie(model, (words[0], words[3]), (point(words[1:3], "X Y"), point(words[4:6], "U V")), share)
-    return between.prop(model, words[0], point(words[1:3], "X Y"), point(words[3:5], "U V"), share)
-
-
-def point(words: list[str], called: str) -> list[int]:
-    return [whole(word, one, -models.COORDINATE, models.COORDINATE)
-            for word, one in zip(words, called.split())]
-
-
 def wide_stages(name: str, words: list[str], progress: Progress) -> int:
+    from masonry.questions import stages
+
     cert, order = counted(words, "stages CERT ORDER", 2)
     accepted(name)
     stages.staged(name, cert, order, progress)
@@ -175,6 +169,8 @@ def wide_stages(name: str, words: list[str], progress: Progress) -> int:
 
 
 def wide_slides(name: str, words: list[str], progress: Progress) -> int:
+    from masonry.questions import slides
+
     words, given = with_units(words, 0, lengths=False)
     every = words[-1:] == ["all"]
     words = counted(words[:-1] if every else words, "slides [N D] [all] [kN FORCE]", 0, 2)
@@ -262,6 +258,8 @@ def accepted(name: str) -> None:
 
 
 def needed_friction(name: str, words: list[str], progress: Progress) -> int:
+    from masonry.questions import frictions
+
     cert, *rest = counted(words, "friction CERT [N D]", 1, 3)
     acting = fraction(rest[0], rest[1]) if rest else Fraction(0)
     accepted(name)
@@ -271,6 +269,8 @@ def needed_friction(name: str, words: list[str], progress: Progress) -> int:
 
 
 def which_fall(name: str, words: list[str], progress: Progress) -> int:
+    from masonry.questions import between, falls, ranges
+
     cert, *rest = counted(words, "falls CERT [N D]", 1, 3)
     acting = fraction(rest[0], rest[1]) if rest else Fraction(0)
     accepted(name)

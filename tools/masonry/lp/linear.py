@@ -107,19 +107,20 @@ def carried(structure: Structure, load: Sequence[int]) -> Amounts | None:
 
 @dataclass(frozen=True)
 class Inner:
-    """Forces far inside their cones: amounts of the edges that are of use, and the factor of the live loads."""
+    """Amounts of the edges that are of use, and the factor of the live loads. The forces are far inside their cones,
+    unless it says that they are not."""
     amounts: Amounts
     factor: Fraction
+    inside: bool = True
 
 
-def inner(structure: Structure, rest: Sequence[int], live: Sequence[int] | None = None, top: Fraction | None = None,
-          edges: Sequence[int] | None = None) -> Inner | None:
-    """Forces far inside their cones that carry a rest, and with it a factor of live loads, up to `top`, where these are
-    given. None where no forces carry the rest.
+def lifted(structure: Structure, rest: Sequence[int], live: Sequence[int] | None = None, top: Fraction | None = None,
+           edges: Sequence[int] | None = None) -> Inner | None:
+    """Forces as far inside their cones as they can be that carry a rest, and with it a factor of live loads, up to
+    `top`, where these are given. None where no forces carry the rest.
 
     Each edge has its inset times one amount and more; this amount is made as great as it can be, up to what is enough:
-    more would take esolver far longer, and save a certificate few bits. Where it stays 0, some edges are of no use, and
-    another program finds them.
+    more would take esolver far longer, and save a certificate few bits.
     """
     edges = range(len(structure.edges)) if edges is None else edges
     inset = [0] * len(rest)
@@ -134,8 +135,22 @@ def inner(structure: Structure, rest: Sequence[int], live: Sequence[int] | None 
     if not isinstance(found, Found):
         return None
     margin = found.value("m")
-    if margin or not edges:
-        return Inner({k: found.value(f"e{k}") + structure.edges[k].inset * margin for k in edges}, found.value("t"))
+    amounts = {k: found.value(f"e{k}") + structure.edges[k].inset * margin for k in edges}
+    return Inner({k: amount for k, amount in amounts.items() if amount}, found.value("t"), not edges or margin > 0)
+
+
+def inner(structure: Structure, rest: Sequence[int], live: Sequence[int] | None = None, top: Fraction | None = None,
+          edges: Sequence[int] | None = None) -> Inner | None:
+    """The same, far inside their cones. If no forces are inside all cones, some edges are of no use, and another
+    program finds them."""
+    edges = range(len(structure.edges)) if edges is None else edges
+    found = lifted(structure, rest, live, top, edges)
+    return found if found is None or found.inside else inner_of_useful(structure, rest, live, top, edges)
+
+
+def inner_of_useful(structure: Structure, rest: Sequence[int], live: Sequence[int] | None, top: Fraction | None,
+                    edges: Sequence[int]) -> Inner | None:
+    """Forces far inside the cones of those edges that are of use."""
     kept = useful(structure, rest, live, top, edges)
     if len(kept) == len(edges):
         raise NotFound("no forces inside the cones were found")

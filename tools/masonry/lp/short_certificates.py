@@ -277,17 +277,24 @@ def exact_forces(structure: Structure, amounts: Amounts, times: int = 1) -> Forc
     return scale // common, [(a // common, b // common) for a, b in parts]
 
 
+def is_short(forces: Forces) -> bool:
+    scale, parts = forces
+    return max(scale, *(abs(x) for part in parts for x in part)) < SHORT
+
+
 def short_forces(structure: Structure, amounts: Amounts, load: Sequence[int], tried: Tried | None = None,
-                 kept: Lattices | None = None) -> Forces:
+                 kept: Lattices | None = None, exact: Forces | None = None) -> Forces:
     """A scale and whole parts of all bearings, near given amounts, that carry the scale times a whole load. The
     lattices that are made are kept, by the unknowns, for structures with the same bearings. If a quick lattice finds
-    none, or long ones, a thorough one is made."""
+    none, or long ones, the exact forces do where such are given; else a thorough lattice is made."""
     tried, kept = tried or Tried(), {} if kept is None else kept
     before = tried.bits
     with suppress(NoVector, NotFound, ArithmeticError):
-        scale, parts = tried.forces(Rounding(structure, amounts, load, kept, quick=True))
-        if max(scale, *(abs(x) for part in parts for x in part)) < SHORT:
-            return scale, parts
+        found = tried.forces(Rounding(structure, amounts, load, kept, quick=True))
+        if is_short(found):
+            return found
+    if exact:
+        return exact
     tried.bits = before
     try:
         return tried.forces(Rounding(structure, amounts, load, kept))

@@ -13,7 +13,7 @@ from masonry.console import Refused, Telling
 from masonry.lp import linear
 from masonry.lp.short_certificates import motion_lines, short_motion
 from masonry.model import Block, Load, Model
-from masonry.numbers import nine_digits, ratio, simplest
+from masonry.numbers import fraction, nine_digits, ratio, simplest, whole
 from masonry.questions import ranges, results
 from masonry.questions.case import Case
 from masonry.questions.results import Loaded, Unlimited
@@ -79,10 +79,24 @@ def tie(model: Model, ends: tuple[str, str], at: tuple[models.Point, models.Poin
     if all(one.fixed for one in bodies) or ends[0] == ends[1]:
         raise Refused("a tie holds two bodies, of which one at least is free")
     made, times = held(model, share)
-    pair = [Load(one.name, "live", list(point), [sign * u, sign * v])
-            for one, point, sign in zip(bodies, at, (1, -1)) if not one.fixed]
+    pair = [Load(one.name, "live", list(place), [sign * u, sign * v])
+            for one, place, sign in zip(bodies, at, (1, -1)) if not one.fixed]
     return Question(replace(made, loads=[*made.loads, *pair]), Scale(Fraction(times)),
                     length_of(u * u + v * v, Fraction(1, times)))
+
+
+def of_words(model: Model, kind: str, words: list[str]) -> Question:
+    """The question of the words after `tie` or `prop`."""
+    count = 6 if kind == "tie" else 5
+    share = fraction(words[count], words[count + 1]) if words[count:] else Fraction(0)
+    if kind == "tie":
+        return tie(model, (words[0], words[3]), (point(words[1:3], "X Y"), point(words[4:6], "U V")), share)
+    return prop(model, words[0], point(words[1:3], "X Y"), point(words[3:5], "U V"), share)
+
+
+def point(words: list[str], called: str) -> list[int]:
+    return [whole(word, one, -models.COORDINATE, models.COORDINATE)
+            for word, one in zip(words, called.split())]
 
 
 def body(model: Model, name: str, free: bool = False) -> Block:

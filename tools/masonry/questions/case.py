@@ -16,7 +16,7 @@ from masonry.lp import linear
 from masonry.lp.linear import Amounts, Inner, Opening, Raised
 from masonry.lp.programs import NoAnswer
 from masonry.lp.short_certificates import (Forces, Lattices, NoForces, Tried, exact_forces, forces_lines,
-                                           motion_lines, refute_all, short_forces, short_motion)
+                                           is_short, motion_lines, refute_all, short_forces, short_motion)
 from masonry.model import Model
 from masonry.numbers import nine_digits, ratio, simplest
 from masonry.questions.results import Collapses, Greatest, Loaded, Shares, Standing, Stands, Unlimited
@@ -50,7 +50,7 @@ class Known:
     certificate, motions that no bearing resists, at which scales forces were found, which needn't be the least where no
     certificate is kept, and lattices of forces without a load."""
     table: str | None = None
-    dead: Amounts | None = None
+    dead: Inner | None = None
     inner: Inner | None = None
     short: Forces | None = None
     stands: bool = False
@@ -147,29 +147,52 @@ class Case:
         self.voice.say("collapses accepted")
         return Collapses(motion)
 
-    def dead_forces(self) -> Amounts | None:
-        """Forces that carry the dead loads, at a corner of their polytope; None where there are none."""
+    def dead_forces(self) -> Inner | None:
+        """Forces that carry the dead loads, inside their cones where esolver finds such; None where there are none."""
         if self.known.dead is None:
             self.progress("forces for the dead loads")
-            self.known.dead = linear.carried(self.structure, self.structure.dead)
+            try:
+                self.known.dead = linear.lifted(self.structure, self.structure.dead)
+            except NoAnswer:
+                corner = linear.carried(self.structure, self.structure.dead)
+                self.known.dead = None if corner is None else Inner(corner, Fraction(0), inside=False)
         return self.known.dead
 
-    def inner_dead(self) -> Inner:
+    def inner_dead(self, dead: Inner) -> Inner:
         """Forces for the dead loads far inside their cones."""
+        if dead.inside:
+            return dead
         if self.known.inner is None:
             self.progress("forces inside the cones for the dead loads")
-            self.known.inner = linear.inner(self.structure, self.structure.dead)
+            every = range(len(self.structure.edges))
+            self.known.inner = linear.inner_of_useful(self.structure, self.structure.dead, None, None, every)
         if self.known.inner is None:
             raise NotFound("no forces for the dead loads were found")
         return self.known.inner
 
-    def short_dead(self, dead: Amounts) -> Forces:
+    def short_dead(self, dead: Inner) -> Forces:
+        """Those that are found as they are, if they are short or at the edge of some cone; or else short ones near
+        forces inside the cones; or at least those at a corner of their polytope."""
         if self.known.short is None:
-            self.known.short = exact_forces(self.structure, dead) or short_forces(
-                self.structure, self.inner_dead().amounts, self.structure.dead, kept=self.known.lattices)
+            exact = exact_forces(self.structure, dead.amounts)
+            if exact and (is_short(exact) or not dead.inside):
+                self.known.short = exact
+            else:
+                self.known.short = self.near_dead(dead, exact)
         return self.known.short
 
-    def stands(self, dead: Amounts) -> Stands:
+    def near_dead(self, dead: Inner, exact: Forces | None) -> Forces:
+        try:
+            return short_forces(self.structure, self.inner_dead(dead).amounts, self.structure.dead,
+                                kept=self.known.lattices, exact=exact)
+        except (NotFound, NoAnswer):
+            corner = linear.carried(self.structure, self.structure.dead)
+            found = exact_forces(self.structure, corner) if corner else None
+            if found is None:
+                raise
+            return found
+
+    def stands(self, dead: Inner) -> Stands:
         scale, parts = self.short_dead(dead)
         self.accepted(self.name, self.cert, ["stands", *forces_lines(scale, 0, parts)])
         self.voice.say("stands accepted")
@@ -208,7 +231,7 @@ class Case:
                 self.voice.note(f"solve: no certificate of the greatest factor, about {about}: {fault}")
         return self.shares(top, dead)
 
-    def unbounded(self, dead: Amounts, live: Amounts) -> Unlimited:
+    def unbounded(self, dead: Inner, live: Amounts) -> Unlimited:
         scale, parts = self.short_dead(dead)
         factor, ray = exact_forces(self.structure, live) or self.short_ray()
         lines = ["unbounded", *forces_lines(scale, 0, parts), *forces_lines(0, factor, ray)]
@@ -247,7 +270,7 @@ class Case:
 
     # Shares
 
-    def shares(self, top: Raised, dead: Amounts) -> Shares:
+    def shares(self, top: Raised, dead: Inner) -> Shares:
         """That the dead loads stand, and a share on each side of the factor."""
         carried = None
         try:
@@ -258,17 +281,17 @@ class Case:
             self.lacks("a certificate that the dead loads stand", fault)
         try:
             refute_all(self.structure, self.known.lattices)
-            carried = self.nearest("carried", top.factor, self.carried_below(top))
+            carried = self.nearest("carried", top.factor, self.carried_below(top, dead))
         except NoForces as fault:
             self.lacks("a share carried", fault)
         beyond = self.nearest("beyond", top.factor, lambda gap: self.beyond(top, gap))
         return Shares(carried and carried[0], beyond and beyond[0], beyond and beyond[1], self.known.stands)
 
-    def carried_below(self, top: Raised) -> Callable[[Fraction], tuple[Fraction, None]]:
+    def carried_below(self, top: Raised, dead: Inner) -> Callable[[Fraction], tuple[Fraction, None]]:
         """What settles a share at a distance below the factor, between forces at factors up to it."""
         self.progress("forces inside the cones below the factor")
         inside = linear.inner(self.structure, self.structure.dead, self.structure.live, top.factor)
-        below = [Inner(self.inner_dead().amounts, Fraction(0)), *([inside] if inside else []),
+        below = [Inner(self.inner_dead(dead).amounts, Fraction(0)), *([inside] if inside else []),
                  Inner(top.amounts, top.factor)]
         return lambda gap: (self.carried(top.factor, below, gap), None)
 
