@@ -97,9 +97,10 @@ class Quick(unittest.TestCase):
         self.assertEqual((found.order, found.poor), ([1, 0], set()))
 
     def test_no_support(self) -> None:
-        # Nothing touches row 1; two rows of a group have one column.
-        self.assertEqual(Supports([{0: 1}], [[0], [1]]).order, [])
-        self.assertEqual(Supports([{0: 1, 1: 1}], [[0, 1]]).order, [])
+        # Nothing touches row 1 of the first; two rows of a group of the second have one column.
+        for columns, groups in ([{0: 1}], [[1], [0]]), ([{0: 1, 1: 1}, {2: 1}], [[0, 1], [2]]):
+            found = Supports(columns, groups)
+            self.assertEqual((found.order, found.poor), ([1], {0}))
 
     def test_a_chain_is_cleared(self) -> None:
         columns: list[Sums] = [{0: 1}]

@@ -25,7 +25,7 @@ from masonry.lp.supports import Echelon, Sums, Supports, grows
 
 TOGETHER, QUICK_TOGETHER = 24, 8  # so many vectors are reduced together, or a few more where the sums need them
 SHADOW, QUICK_SHADOW = 64, 32  # the numbers of a shadow
-FEW_POOR = 8  # a quick lattice is sparse if at most one group of so many is poor
+FEW_POOR = 4  # a quick lattice is sparse if at most one group of so many is poor
 LIGHT = 40  # bits of the least weight of sums beside lengths
 SURE = 2**46  # multiples below this, found in floating point, are right to a small part of 1
 
@@ -378,13 +378,15 @@ class Lattice:
     def supports(self) -> Supports | None:
         """The order of the groups of a sparse lattice."""
         found = Supports(self.columns, self.groups) if self.quick else None
-        return found if found and found.order and FEW_POOR * len(found.poor) <= len(self.groups) else None
+        return found if found and FEW_POOR * len(found.poor) <= len(self.groups) else None
 
     def reduce(self, fresh: list[Vector]) -> None:
-        """Uses up the groups: in the order of their supports, or else the one that the fewest vectors touch first."""
+        """Uses up the groups, first the one that the fewest vectors touch; then those of a sparse lattice that have
+        supports, in their order."""
         supports = self.supports()
         touching: list[dict[int, Vector]] = [{} for _ in self.groups]
-        left = set(range(len(self.groups)))
+        order = supports.order[:] if supports else []
+        left = set(range(len(self.groups))).difference(order)
         while True:
             for vector in fresh:
                 reached = self.reached(vector)
@@ -392,10 +394,10 @@ class Lattice:
                     touching[g][vector.number] = vector
                 if not reached:
                     self.basis.append(vector)
-            if not left:
+            if not left and not order:
                 return
-            g = supports.order[-len(left)] if supports else min(left, key=lambda g: (len(touching[g]), g))
-            left.remove(g)
+            g = min(left, key=lambda g: (len(touching[g]), g)) if left else order.pop(0)
+            left.discard(g)
             taken = sorted(touching[g].values(), key=lambda vector: vector.square)
             for vector in taken:
                 for other in self.reached(vector):

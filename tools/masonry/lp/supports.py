@@ -3,7 +3,7 @@
 Nothing here is proved, and nothing is about masonry. Columns have sums in groups of rows, as in lattice.py, most of
 them in one or two. In the order that is found each group comes before those that support it: the columns that it
 shares with these, and those that it alone has, reach sums of every direction in it. If whole multiples of them reach
-even all that any columns reach there, the group stands by itself. Else it is poor.
+even all that any columns reach there, the group stands by itself. Else it is poor, as are groups without supports.
 """
 from collections.abc import Iterator, Mapping, Sequence
 from heapq import heappop, heappush
@@ -39,10 +39,10 @@ def volume(echelon: Echelon) -> int:
 
 
 class Supports:
-    """The order of the groups, the first to be used up first, and the poor ones. The order is empty where some group
-    has no support.
+    """The order of the groups with supports, the first to be used up first, and the poor groups. Those without supports
+    come before them.
 
-    It is found from its end on: of the groups that those found support, the one whose own columns reach the greatest
+    The order is found from its end on: of the groups that those found support, the one whose own columns reach the greatest
     part of what any reach is next.
     """
 
@@ -60,10 +60,8 @@ class Supports:
                 if len(column) == 1:
                     grows(self.own[g], sums)
         self.volumes = [*map(volume, reached)]
-        self.poor = set[int]()
+        self.poor = set(range(len(groups)))
         self.order = [*self.found()][::-1]
-        if len(self.order) < len(groups):
-            self.order = []
 
     def found(self) -> Iterator[int]:
         waiting: list[tuple[int, int]] = []
@@ -75,8 +73,8 @@ class Supports:
             if g in used:
                 continue
             used.add(g)
-            if index > 1:
-                self.poor.add(g)
+            if index == 1:
+                self.poor.remove(g)
             yield g
             for other, sums in [one for k in self.touching[g] for one in self.columns[k]]:
                 if other not in used and grows(self.own[other], sums):
