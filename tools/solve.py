@@ -98,7 +98,7 @@ from masonry.lp.programs import MISSING
 from masonry.model import Model
 from masonry.numbers import fraction, whole
 from masonry.questions import results
-from masonry.questions.case import Case
+from masonry.questions.case import PART, Case, Known
 from masonry.questions.voice import Voice
 from masonry.units import Given, Scale, Size, dead_of, factor_in, scale_of, with_units
 
@@ -110,8 +110,7 @@ MICRO = 2  # how far two shares may be apart, in millionths, if no number is giv
 
 def stand(name: str, words: list[str], progress: Progress) -> int:
     cert, = counted(words, "stand CERT", 1)
-    accepted(name)
-    Case(name, cert, progress).stand()
+    case_of(name, cert, progress).stand()
     return 0
 
 
@@ -135,8 +134,8 @@ def wide_between(name: str, words: list[str], progress: Progress) -> int:
     kind = rest[0] if rest else ""
     if len(rest) not in {"": (0,), "tie": (7, 9), "prop": (6, 8)}.get(kind, ()):
         raise Words("the form is MODEL between CERT [tie A X Y B U V [N D]] or [prop A X Y U V [N D]] [kN FORCE]")
-    accepted(name)
-    model, scale = models.read(name), scale_of(models.text_of(name))
+    _, model = accepted(name)
+    scale = scale_of(models.text_of(name))
     if kind:
         question = between.of_words(model, kind, rest[1:])
     elif model.has_live():
@@ -177,10 +176,9 @@ def wide_slides(name: str, words: list[str], progress: Progress) -> int:
     wanted = fraction(words[0], words[1]) if words else None
     if wanted is not None and wanted < 0:
         raise Words("N must be at least 0")
-    accepted(name)
+    _, model = accepted(name)
     said = slides.Said()
     if given.force:
-        model = models.read(name)
         unit = given.force / scale_of(models.text_of(name)).forces
         said = slides.Said(float(unit), factor_in(unit, model) if model.live_loads() else Size())
         print(*lines_of(given, model), sep="\n", flush=True)
@@ -193,8 +191,7 @@ def live_case(name: str, words: list[str], form: str, progress: Progress) -> Cas
     words, given = with_units(words, 1, lengths=False)
     counted(words, form, 1, 2)
     micro = whole(words[1], "MICRO", 1, 10**6) if words[1:] else MICRO
-    accepted(name)
-    case = Case(name, words[0], progress, part=Fraction(micro, 2 * 10**6))
+    case = case_of(name, words[0], progress, Fraction(micro, 2 * 10**6))
     if not case.model.has_live():
         raise Ended(NO_LIVE)
     if given.force:
@@ -251,10 +248,18 @@ def telling_of_old(cert: str) -> Iterator[None]:
             console.said(f"solve: {console.plain(cert)} is still what it was before", 0)
 
 
-def accepted(name: str) -> None:
-    """Ends with what the program says of a model that it refuses; and refuses one in which nothing could fall."""
-    program.answer("contacts", name)
-    models.read(name)
+def accepted(name: str) -> tuple[str, Model]:
+    """A model's table of contacts, and the model. Ends with what the program says of a model that it refuses; and
+    refuses one in which nothing could fall."""
+    return program.answer("contacts", name), models.read(name)
+
+
+def case_of(name: str, cert: str, progress: Progress, part: Fraction = PART) -> Case:
+    """The case of such a model, which is asked for and read once."""
+    table, model = accepted(name)
+    case = Case(name, cert, progress, part=part, known=Known(table))
+    case.model = model
+    return case
 
 
 def needed_friction(name: str, words: list[str], progress: Progress) -> int:
@@ -262,9 +267,8 @@ def needed_friction(name: str, words: list[str], progress: Progress) -> int:
 
     cert, *rest = counted(words, "friction CERT [N D]", 1, 3)
     acting = fraction(rest[0], rest[1]) if rest else Fraction(0)
-    accepted(name)
-    model, scale = models.read(name), scale_of(models.text_of(name))
-    frictions.needed(model, scale, cert.removesuffix(".cert"), acting, progress)
+    _, model = accepted(name)
+    frictions.needed(model, scale_of(models.text_of(name)), cert.removesuffix(".cert"), acting, progress)
     return 0
 
 
@@ -273,8 +277,7 @@ def which_fall(name: str, words: list[str], progress: Progress) -> int:
 
     cert, *rest = counted(words, "falls CERT [N D]", 1, 3)
     acting = fraction(rest[0], rest[1]) if rest else Fraction(0)
-    accepted(name)
-    model, text = models.read(name), models.text_of(name)
+    (_, model), text = accepted(name), models.text_of(name)
     made, times = between.held(model, acting)
     head = ranges.head(scale_of(text).times(Scale(Fraction(times))),
                        dead_of(text).shared(acting) if model.has_live() else dead_of(text))

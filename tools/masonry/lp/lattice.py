@@ -414,7 +414,7 @@ class Lattice:
         """The vectors that take the place of those taken, without sums in the group."""
         first: list[Vector] = []
         others: list[Vector] = []
-        reached: list[list[int] | None] = [None] * len(group)
+        reached: Echelon = [None] * len(group)
         bits = sum(max((abs(vector.sums.get(row, 0)) for vector in taken), default=0).bit_length() for row in group)
         most = QUICK_TOGETHER if self.quick else TOGETHER
         for vector in taken:

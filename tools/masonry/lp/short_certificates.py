@@ -18,11 +18,11 @@ from masonry.statics import Column, GREATEST, Motion, NotFound, Part, Structure
 SMALL = 60  # so many vectors of a basis can be reduced all together
 ROOM = 2**10  # for the sums of products that `check` adds up
 FINE = 127  # bits of the fractions of given amounts that are used
+FINER = FINE + 32  # and while they are added up
 FEW = 40  # bits of a scale that mostly is enough
 SHORT = 2**50  # where forces are below this, `check` has room for all its sums and products
 MORE = 8  # bits by which other forces may need a greater scale
 Made = TypeVar("Made")
-Number = TypeVar("Number", int, Fraction)
 Forces = tuple[int, list[Part]]  # a scale, and the whole parts of all bearings
 
 
@@ -43,20 +43,21 @@ def least(works: Callable[[int], Made | None], most: int = 127, likely: Callable
 
 @dataclass
 class Unknown:
-    """A number of the lattice: what it is of each bearing that it stands for, and the amount near which it is looked
-    for."""
+    """A number of the lattice: what it is of each bearing that it stands for, and the amounts near which it is looked
+    for, in units of 2^-FINER."""
     bearings: list[int]
     part: Part
-    amounts: list[Fraction]
+    amounts: list[int]
 
-    def amount(self) -> Fraction:
-        return sum(self.amounts, Fraction(0))
+    def amount(self) -> int:
+        """In units of 2^-FINE."""
+        return sum(self.amounts) >> FINER - FINE
 
     @cached_property
     def apart(self) -> int:
         """By how much the amount of the first bearing exceeds that of the second, in units of 2^-FINE."""
         first, second = self.amounts
-        return round((first - second) * (1 << FINE))
+        return first - second >> FINER - FINE
 
 
 # By the bearings and parts of their unknowns, and whether they are quick.
@@ -89,18 +90,18 @@ class Rounding:
                  quick: bool = False) -> None:
         self.structure = structure
         used: dict[int, list[Part]] = {}
-        parts: dict[int, tuple[Fraction, Fraction]] = {}
+        parts: dict[int, Part] = {}  # in units of 2^-FINER
         for k, amount in amounts.items():
-            edge = structure.edges[k]
+            edge, fine = structure.edges[k], (amount.numerator << FINER) // amount.denominator
             used.setdefault(edge.bearing, []).append(edge.part)
-            a, b = parts.get(edge.bearing, (Fraction(0), Fraction(0)))
-            parts[edge.bearing] = a + edge.part[0] * amount, b + edge.part[1] * amount
+            a, b = parts.get(edge.bearing, (0, 0))
+            parts[edge.bearing] = a + edge.part[0] * fine, b + edge.part[1] * fine
         self.unknowns = list(unknowns(structure, used, parts))
         # The bearings with two edges; and the room of each part, and the given amounts, in units of 2^-FINE.
         self.wide = {number for number, of in used.items() if len(of) == 2}
-        self.rooms = {number: int(self.room(number, part) * (1 << FINE)) for number, part in parts.items()}
-        self.fine = [round(one.amount() * (1 << FINE)) for one in self.unknowns]
-        self.longest = max((int(abs(x)) for part in parts.values() for x in part), default=0).bit_length()
+        self.rooms = {number: self.room(number, part) >> FINER - FINE for number, part in parts.items()}
+        self.fine = [one.amount() for one in self.unknowns]
+        self.longest = max((abs(x) >> FINER for part in parts.values() for x in part), default=0).bit_length()
         self.load = {row: x for row, x in enumerate(load) if x}
         self.lattice = lattice_of(structure, self.unknowns, {} if kept is None else kept, quick)
         self.unit = abs(self.reaching()[-1])
@@ -113,7 +114,7 @@ class Rounding:
             raise NoVector
         return found[0].unknowns(len(self.unknowns) + 1)
 
-    def room(self, number: int, part: tuple[Number, Number]) -> Number:
+    def room(self, number: int, part: Part) -> int:
         """How far a part is inside its cone, in units of its own."""
         bearing, (a, b) = self.structure.bearings[number], part
         return bearing.p * a - bearing.q * abs(b) if number in self.wide else a
@@ -194,14 +195,13 @@ class Rounding:
         refute([*vectors, self.reaching()], [len(one.bearings) for one in self.unknowns])
 
 
-def unknowns(structure: Structure, used: dict[int, list[Part]],
-             parts: dict[int, tuple[Fraction, Fraction]]) -> Iterator[Unknown]:
+def unknowns(structure: Structure, used: dict[int, list[Part]], parts: dict[int, Part]) -> Iterator[Unknown]:
     """The unknowns of the bearings in use, of each by the parts of its edges: first what presses or has one edge, and
     then what acts along joints."""
     along: dict[tuple[tuple[int, int], ...], list[int]] = {}
     for number, of in used.items():
         piece = (1, 0) if len(of) == 2 else of[0]
-        yield Unknown([number], piece, [parts[number][0] / piece[0]])
+        yield Unknown([number], piece, [parts[number][0] // piece[0]])
         if len(of) == 2:
             along.setdefault(tuple(sorted(structure.column(number, (0, 1)).items())), []).append(number)
     for numbers in along.values():
@@ -238,7 +238,7 @@ def refute_all(structure: Structure, kept: Lattices) -> None:
         used.setdefault(edge.bearing, []).append(edge.part)
     if len(structure.edges) - len(structure.dead) > 2 * SMALL:
         return  # more vectors than are reduced all together
-    found = list(unknowns(structure, used, {number: (Fraction(0), Fraction(0)) for number in used}))
+    found = list(unknowns(structure, used, dict.fromkeys(used, (0, 0))))
     lattice = lattice_of(structure, found, kept)
     loads = [{row: x for row, x in enumerate(load) if x} for load in (structure.dead, structure.live)]
     basis = [*lattice.basis, *lattice.reaching(loads)]
