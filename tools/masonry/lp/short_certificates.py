@@ -283,18 +283,16 @@ def is_short(forces: Forces) -> bool:
 
 
 def short_forces(structure: Structure, amounts: Amounts, load: Sequence[int], tried: Tried | None = None,
-                 kept: Lattices | None = None, exact: Forces | None = None) -> Forces:
+                 kept: Lattices | None = None) -> Forces:
     """A scale and whole parts of all bearings, near given amounts, that carry the scale times a whole load. The
     lattices that are made are kept, by the unknowns, for structures with the same bearings. If a quick lattice finds
-    none, or long ones, the exact forces do where such are given; else a thorough lattice is made."""
+    none, or long ones, a thorough one is made."""
     tried, kept = tried or Tried(), {} if kept is None else kept
     before = tried.bits
     with suppress(NoVector, NotFound, ArithmeticError):
         found = tried.forces(Rounding(structure, amounts, load, kept, quick=True))
         if is_short(found):
             return found
-    if exact:
-        return exact
     tried.bits = before
     try:
         return tried.forces(Rounding(structure, amounts, load, kept))

@@ -172,22 +172,21 @@ class Case:
 
     def short_dead(self, dead: Inner) -> Forces:
         """Those that are found as they are, if they are short or at the edge of some cone; or else short ones near
-        forces inside the cones; or at least those at a corner of their polytope."""
+        forces inside the cones."""
         if self.known.short is None:
             exact = exact_forces(self.structure, dead.amounts)
-            if exact and (is_short(exact) or not dead.inside):
-                self.known.short = exact
-            else:
-                self.known.short = self.near_dead(dead, exact)
+            self.known.short = (exact if exact and (is_short(exact) or not dead.inside)
+                                else self.near_dead(dead, exact))
         return self.known.short
 
     def near_dead(self, dead: Inner, exact: Forces | None) -> Forces:
+        """Short forces, or at least exact ones: the given ones, or those at a corner of their polytope."""
         try:
             return short_forces(self.structure, self.inner_dead(dead).amounts, self.structure.dead,
-                                kept=self.known.lattices, exact=exact)
+                                kept=self.known.lattices)
         except (NotFound, NoAnswer):
-            corner = linear.carried(self.structure, self.structure.dead)
-            found = exact_forces(self.structure, corner) if corner else None
+            corner = None if exact else linear.carried(self.structure, self.structure.dead)
+            found = exact_forces(self.structure, corner) if corner else exact
             if found is None:
                 raise
             return found
