@@ -42,8 +42,8 @@ class Supports:
     """The order of the groups with supports, the first to be used up first, and the poor groups. Those without supports
     come before them.
 
-    The order is found from its end on: of the groups that those found support, the one whose own columns reach the greatest
-    part of what any reach is next.
+    The order is found from its end on: of the groups that those found support, the one whose own columns reach the
+    greatest part of what any reach is next.
     """
 
     def __init__(self, columns: Sequence[Sums], groups: Sequence[Sequence[int]]) -> None:
