@@ -1,5 +1,5 @@
 #!/usr/bin/env python3
-"""Tries what makes a figure unsafe, as far as a drawing allows: each change alone, and the worst of all together.
+"""Tries what makes a figure unsafe, as far as a drawing allows: each change alone, and some together.
 
     tools/assess.py MODEL [UNIT] [WORD VALUE ..] [one]
 
@@ -15,7 +15,7 @@ factors. The script asks about MODEL, turns its live loads and its sway round, a
     joints        shorter at each end
 
 The last row makes the worst change of each kind together, or that one of each which is worst beside the others; changes
-that cost nothing there are left out. Live loads aren't moved, nor asked one by one, with a sway, if they are more than
+that cost nothing there are left out. Another set may cost more. Live loads aren't moved, nor asked one by one, with a sway, if they are more than
 6, or if they are more than two that don't act straight down, as parts of a pressure. Words, in any order:
 
     order FILE      an order of building: the least of its stages
