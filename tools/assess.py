@@ -15,8 +15,9 @@ factors. The script asks about MODEL, turns its live loads and its sway round, a
     joints        shorter at each end
 
 The last row makes the worst change of each kind together, or that one of each which is worst beside the others; changes
-that cost nothing there are left out. Another set may cost more. Live loads aren't moved, nor asked one by one, with a sway, if they are more than
-6, or if they are more than two that don't act straight down, as parts of a pressure. Words, in any order:
+that cost nothing there are left out. Another set may cost more. Live loads aren't moved, nor asked one by one, with a
+sway, if they are more than 6, or if they are more than two that don't act straight down, as parts of a pressure. Words,
+in any order:
 
     order FILE      an order of building: the least of its stages
     inset D         by how much joints are shorter, in units of the grid; else a twentieth of the median joint, and at
@@ -49,7 +50,7 @@ from pathlib import Path
 import look
 from masonry import model as models, program, time_limit
 from masonry.assessing import changes
-from masonry.assessing.trials import LIMITED, Assessment, Row, Wanted, part_of, rounded, twentieth
+from masonry.assessing.trials import LIMITED, Assessment, Row, Wanted, ordered, part_of, rounded, twentieth
 from masonry.console import Progress, Refused, Words, plain, ran
 from masonry.lp.programs import MISSING
 from masonry.model import Bearing, Model
@@ -207,7 +208,8 @@ an earth that is weaker than its pressure says: docs/worked/wall.md, step 11"""
 SETS = """sets of live loads without the rest, as half of a crowd or of snow: docs/use/safety.md, "Sets of live loads"
 live loads that turn round while others keep their direction"""
 APART = """dead loads one by one a tenth less or more, and several missing at once, as the parts of one floor"""
-DOWN = """a load that travels farther than to the next block, and axles: tools/travel.py
+FARTHER = """a load that travels farther than to the next block: the word `travels`, or tools/travel.py"""
+DOWN = """loads that travel together, as axles do: tools/travel.py
 two loads together, in any proportion: tools/region.py"""
 STAYS = """a live load at any other place, or without the others: none was moved or asked alone here"""
 
@@ -216,7 +218,8 @@ def untried(model: Model, bearings: Sequence[Bearing], travels: bool) -> Iterato
     """The mistakes that no script has tried."""
     live, dead = model.live_loads(), [load for load in model.loads if load.kind == "dead"]
     for lines in (ALWAYS, SWAYING if any(model.sway or ()) else STILL, SETS if live[1:] else "",
-                  APART if dead[1:] else "", DOWN if any(not load.force[0] for load in live) else "",
+                  APART if dead[1:] else "", "" if travels or not any(map(changes.hangs, live)) else FARTHER,
+                  DOWN if any(not load.force[0] for load in live) else "",
                   STAYS if live and not changes.one_by_one(model) else ""):
         yield from (f"- {line}." for line in lines.splitlines())
     yield from (f"- {line}." for line in changes.left_out(model, bearings, travels))
@@ -245,6 +248,8 @@ def assess(words: list[str]) -> int:
     contacts, model = program.answer("contacts", wanted.name), models.read(wanted.name)
     if not model.free_blocks():
         raise Refused(f"{plain(wanted.name)}: no block is free")
+    if wanted.order:
+        ordered(model, wanted.order)
     if shutil.which("esolver") is None:
         raise Refused(MISSING)
     with Progress("assess") as progress:

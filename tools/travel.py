@@ -21,8 +21,10 @@ pier, say. Then each X is a height, and the sides of a place are below and above
 
 With `spread` a live load of FORCE downwards moves on the surface of a fill at the height Y, spread over WIDTH about X,
 and by SLOPE to each side for each unit of depth, as by tools/earth.py fill, which has laid the fill itself in MODEL. It
-is asked about at the places X alone: between two of them less may be carried, so take them close together. Its parts
-are rounded as there, so take a small unit of force.
+is asked about at the places X alone: between two of them less may be carried, so take them close together. What falls
+beside the structure is left out; `part P` behind the blocks says which part of the load falls on them. Live loads of
+MODEL stay and rise with it: one that earth.py has spread there is one load more. Its parts are rounded as there, so
+take a small unit of force.
 
 With `inset D` each joint is shorter by D at each end, as in the model that `tools/variant.py inset MODEL D` prints; its
 lines go to standard error. The loads stay at the places of MODEL, in its units.
@@ -56,7 +58,7 @@ from typing import Protocol
 
 from masonry import console, model as models, numbers, program
 from masonry.console import Progress, Refused, Words
-from masonry.fill import Spread, lay_spread, pieces_under
+from masonry.fill import ALL, Spread, lay_part, pieces_under
 from masonry.inset import Inset, inset
 from masonry.lp.short_certificates import Tried
 from masonry.model import Block, Load, Model
@@ -90,13 +92,16 @@ def uppermost(model: Model, x: Fraction) -> Block | None:
 
 @dataclass(frozen=True)
 class Seat:
-    """Where a load acts: its x, and the block that it acts on, None where it has left the structure."""
+    """Where a load acts: its x, and the block that it acts on, None where it has left the structure; and which part of
+    it acts there."""
     x: int
     block: str | None
+    part: float = 1.0
 
     def said(self, units: Units = Units()) -> str:
         at = self.x if units.length == 1 else units.long(self.x)
-        return f"at {at} " + ("off" if self.block is None else f"on {self.block}")
+        part = "" if self.part == 1 else f" part {self.part:.4g}"
+        return f"at {at} " + ("off" if self.block is None else f"on {self.block}{part}")
 
 
 def seat(model: Model, x: int, side: Fraction) -> Seat:
@@ -203,25 +208,22 @@ class Spreading:
     top: float
     load: Spread
 
-    def laid(self, x: int) -> Laid | None:
-        """Its parts with its middle at x; None if not all of it falls on the structure."""
+    def laid(self, x: int) -> tuple[Laid, float]:
+        """What of it falls on the structure with its middle at x, and which part of it that is."""
         laid = Laid()
-        try:
-            lay_spread(laid, self.pieces, self.top, replace(self.load, x=float(x)))
-        except Refused:
-            return None
-        return laid
+        part = lay_part(laid, self.pieces, self.top, replace(self.load, x=float(x)))
+        return laid, 1.0 if abs(part - 1) <= ALL else part
 
     def places(self) -> list[int]:
         raise Words("name the places X at which a load that is spread is to be asked about")
 
     def seats(self, x: int) -> list[tuple[Seat, ...]]:
-        laid = self.laid(x)
-        return [(Seat(x, None if laid is None else ",".join(dict.fromkeys(block for block, _, _ in laid.sums))),)]
+        laid, part = self.laid(x)
+        blocks = [block for (block, _, _), (_, down) in laid.sums.items() if down]
+        return [(Seat(x, ",".join(dict.fromkeys(blocks)) if part > ALL else None, part),)]
 
     def placed(self, seats: Sequence[Seat]) -> Model:
-        laid = self.laid(seats[0].x)
-        return self.model if laid is None else with_loads(self.model, laid)[0]
+        return with_loads(self.model, self.laid(seats[0].x)[0])[0]
 
 
 def spreading(model: Model, words: Sequence[str]) -> Spreading:
@@ -255,7 +257,7 @@ class Place:
         return f"{where} {'no answer' if self.found is None else carries(self.found, told.size)}"
 
     def all_on(self) -> bool:
-        return all(one.block for one in self.seats)
+        return all(one.block and one.part == 1 for one in self.seats)
 
     def settled(self) -> bool:
         """Whether there are a factor that is carried and one that isn't, or no limit."""
@@ -376,6 +378,8 @@ def travel_spread(words: list[str], given: Given) -> int:
     places = [whole(word, "X", -models.COORDINATE, models.COORDINATE) for word in words[6:]]
     with Progress("travel") as progress:
         program.answer("contacts", words[0])
+        if still := len(models.read(words[0]).live_loads()):
+            print(f"travel: {still} live loads of the model stay where they are, and rise too", file=sys.stderr)
         moving, units = spreading(models.read(words[0]), words[2:6]), given.units(scale_of(models.text_of(words[0])))
         told = Told(units, Size(Fraction(moving.load.force) * units.force) if given.force else Size())
         for line in given.lines():

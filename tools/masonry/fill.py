@@ -98,13 +98,19 @@ class Spread:
         return (self.x + way * reach - ax) / (bx - ax + 2 * way * self.slope * (by - ay))
 
 
-def lay_spread(laid: Laid, pieces: list[Piece], top: float, load: Spread) -> None:
+def lay_part(laid: Laid, pieces: list[Piece], top: float, load: Spread) -> float:
+    """Lays what falls on these pieces, and gives which part of the load that is."""
     total = 0.0
     for piece in pieces:
         part, way = load.on(piece, top)
         total += part
         for at, of in (piece.start, 1 - way), (piece.end, way):
             laid.add(piece.block, load.kind, at, (0.0, -load.force * part * of))
+    return total
+
+
+def lay_spread(laid: Laid, pieces: list[Piece], top: float, load: Spread) -> None:
+    total = lay_part(laid, pieces, top, load)
     if abs(total - 1) > ALL:
         raise Refused(f"{total:.4g} of the load that is spread about {load.x:g} falls on the structure, and not all")
 

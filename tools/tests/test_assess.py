@@ -184,6 +184,10 @@ class Assessed(Asked):
         models.write(self.name, post([PUSH]))
         self.said(assess.main, self.name, "files", self.folder, status=70)
         self.said(assess.main, self.name, "files", self.name, status=70)
+        order = Path(self.folder, "order")
+        order.write_text("nobody\n")
+        self.said(assess.main, self.name, "order", str(order), "files", f"{self.folder}/none", status=70)
+        self.assertFalse(Path(self.folder, "none").exists())
 
 
 class Changed(unittest.TestCase):

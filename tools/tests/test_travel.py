@@ -118,18 +118,20 @@ class Travels(Asked):
                          ["at 31 off", "least of the given places at 2 on beam 330/1 = 330"])
 
     def test_a_load_that_is_spread(self) -> None:
-        """The beam above under 2 of fill without weight. A load of 30 over 2 comes to it over 4: about x it tips the
-        beam about 4 or 26 at 60*11/30 over 4 - x or x - 26; at 1 a part of it would fall beside the beam."""
+        """The beam above under 2 of fill without weight. A load of 240 over 2 comes to it over 4: about x it tips
+        the beam about 4 or 26 at 60*11/240 over 4 - x or x - 26. At 1 three quarters of it fall on the beam, their
+        middle at 1.5: it tips at 60*11/240 over 3/4*(4 - 1.5)."""
         blocks = [Block(name=name, material="stone", fixed=True, corners=[[x, 0], [x + 2, 0], [x + 2, 9], [x, 9]])
                   for name, x in (("left", 4), ("right", 24))]
         beam = Block(name="beam", material="stone", corners=[[0, 9], [30, 9], [30, 11], [0, 11]])
         models.write(self.name, Model(None, None, [Material("stone", 1, [1, 1])], [], [*blocks, beam], []))
-        spread = "spread", "13", "30", "2", "1/2"
+        spread = "spread", "13", "240", "2", "1/2"
         self.assertEqual(self.said(travel.main, self.name, *spread, "1", "2", "15", "27", "m", "0.1"), [
-            "lengths in m", "at 0.1 off", "at 0.2 on beam 11/1 = 11", "at 1.5 on beam unlimited",
-            "at 2.7 on beam 22/1 = 22", "least of the given places at 0.2 on beam 11/1 = 11"])
-        self.assertEqual(self.said(travel.main, self.name, *spread, "2", "kN", "0.5")[1], "at 2 on beam 11/1 = 165")
-        self.said(travel.main, self.name, *spread, "1", status=70)
+            "lengths in m", "at 0.1 on beam part 0.75 22/15 = 1.46667", "at 0.2 on beam 11/8 = 1.375",
+            "at 1.5 on beam unlimited", "at 2.7 on beam 11/4 = 2.75",
+            "least of the given places at 0.2 on beam 11/8 = 1.375"])
+        self.assertEqual(self.said(travel.main, self.name, *spread, "2", "kN", "0.5")[1], "at 2 on beam 11/8 = 165")
+        self.said(travel.main, self.name, *spread, "-9", status=70)
 
     def test_joints_that_are_shorter(self) -> None:
         # The beam above on posts whose joints lose 1/2 at each end, so that it tips about 4.5: at an end it carries

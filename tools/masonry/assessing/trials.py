@@ -96,6 +96,14 @@ def rounded(value: float) -> str:
     return f"{floor(value * 10**places * (1 + 1e-12)) / 10**places:.{places}f}"
 
 
+def ordered(model: Model, order: str) -> list[str]:
+    """The names of the blocks in an order of building."""
+    names = models.text_of(order).splitlines()
+    if len(set(names)) < len(names) or not set(names) <= {block.name for block in model.free_blocks()}:
+        raise Refused(f"{order}: each line names another free block")
+    return names
+
+
 class Assessment:
     """The rows of a model, as they are settled."""
 
@@ -143,11 +151,8 @@ class Assessment:
 
     def stages(self, name: str, order: str) -> Iterator[Row]:
         """The stages of an order but for the finished structure."""
-        names = models.text_of(order).splitlines()
-        free = {block.name for block in self.model.free_blocks()}
-        if len(set(names)) < len(names) or not set(names) <= free:
-            raise Refused(f"{order}: each line names another free block")
-        for count in range(1, len(names) + (len(names) < len(free))):
+        names = ordered(self.model, order)
+        for count in range(1, len(names) + (len(names) < len(self.model.free_blocks()))):
             said = f"while it is built: stage {count} of {Path(order).name}"
             yield self.row(f"{name}-{count}", said, [stage(names[:count])])
 
