@@ -378,13 +378,14 @@ def travel_spread(words: list[str], given: Given) -> int:
     places = [whole(word, "X", -models.COORDINATE, models.COORDINATE) for word in words[6:]]
     with Progress("travel") as progress:
         program.answer("contacts", words[0])
-        if still := len(models.read(words[0]).live_loads()):
-            print(f"travel: {still} live loads of the model stay where they are, and rise too", file=sys.stderr)
         moving, units = spreading(models.read(words[0]), words[2:6]), given.units(scale_of(models.text_of(words[0])))
         told = Told(units, Size(Fraction(moving.load.force) * units.force) if given.force else Size())
         for line in given.lines():
             print(line)
-        return asked_along(moving, places, told, lambda seats: asked_at(moving, seats, progress, Known()))
+        status = asked_along(moving, places, told, lambda seats: asked_at(moving, seats, progress, Known()))
+    if still := len(moving.model.live_loads()):
+        print(f"travel: live loads of the model that stay where they are, and rise too: {still}", file=sys.stderr)
+    return status
 
 
 def told_of(group: Group, given: Given, scale: Scale) -> Told:
