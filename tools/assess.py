@@ -150,7 +150,7 @@ def sliding(found: Assessment) -> Iterator[str]:
             yield f"- Whether a joint can slide{way} isn't settled."
             continue
         if not slides:
-            yield f"- No joint can slide{way}: so the figure as drawn is exact for the structure as drawn."
+            yield f"- No joint can slide{way}, with this drawing and this friction."
         else:
             slide = min(slides, key=lambda one: one.least)
             own, least = slide.thrusts[slide.joint], rounded(float(slide.least * end.times) * end.worth)

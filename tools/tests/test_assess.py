@@ -51,7 +51,7 @@ class Assessed(Asked):
         self.assertTrue(17.8 < float(rows["shorter"][0]) < 18)
         self.assertTrue(16 < float(rows["together"][0]) < 16.2)
         self.assertIn("load 1 at 0 0 on post (80.00 and 80.00)", next(one for one in lines if "No less" in one))
-        self.assertIn("- No joint can slide: so the figure as drawn is exact for the structure as drawn.", lines)
+        self.assertIn("- No joint can slide, with this drawing and this friction.", lines)
         self.assertEqual(self.rows(self.assessed(post([PUSH]), "one"))["as-drawn"], ["2.000"])
 
     def test_loads_that_stay_are_told(self) -> None:
