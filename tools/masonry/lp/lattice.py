@@ -25,7 +25,7 @@ from masonry.lp.supports import Echelon, Sums, Supports, grows
 
 TOGETHER, QUICK_TOGETHER = 24, 8  # so many vectors are reduced together, or a few more where the sums need them
 SHADOW, QUICK_SHADOW = 64, 32  # the numbers of a shadow
-FEW_POOR = 4  # a quick lattice is sparse if at most one group of so many is poor
+FEW_POOR = 2  # a quick lattice is sparse if at most one group of so many is poor
 LIGHT = 40  # bits of the least weight of sums beside lengths
 SURE = 2**46  # multiples below this, found in floating point, are right to a small part of 1
 
@@ -365,8 +365,8 @@ class Lattice:
 
     def __init__(self, columns: Sequence[Sums], groups: Sequence[Sequence[int]], quick: bool = False) -> None:
         """A column is a dictionary from rows to amounts. A quick lattice is made in less time, and its vectors are
-        longer. Where most groups stand by themselves it is sparse: it keeps no vector that touches only these, so it
-        may not clear all sums that can be cleared, and has no basis."""
+        longer. Where half of the groups or more stand by themselves it is sparse: it keeps no vector that touches only
+        these, so it may not clear all sums that can be cleared, and has no basis."""
         self.columns, self.groups, self.quick = columns, groups, quick
         self.steps: list[Step] = []
         self.bits = 0  # of the weight of sums at the last step
