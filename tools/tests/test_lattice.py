@@ -8,7 +8,7 @@ from collections.abc import Sequence
 
 import helpers  # puts tools/ where the modules are found
 
-from masonry.lp.lattice import SHADOW, Lattice, NoVector, Vector, divisible, packed, signs, unpacked
+from masonry.lp.lattice import Kind, SHADOW, Lattice, NoVector, Vector, divisible, packed, signs, unpacked
 from masonry.lp.short_certificates import least
 from masonry.lp.supports import Sums, Supports
 
@@ -106,12 +106,18 @@ class Quick(unittest.TestCase):
         columns: list[Sums] = [{0: 1}]
         for row in range(15):
             columns += [{row: 1, row + 1: -1}, {row: 3, row + 1: -5}]
-        found = Lattice(columns, [[row] for row in range(16)], quick=True)
+        found = Lattice(columns, [[row] for row in range(16)], Kind.SPARSE)
         self.assertEqual(found.basis, [])
         whole = [7 * number % 5 for number in range(len(columns))]
         near = found.near(whole, {15: 4})
         self.assertEqual([sum(x * column.get(row, 0) for x, column in zip(near, columns)) for row in range(16)],
                          [0] * 15 + [-4])
+
+    def test_none_is_sparse_where_most_groups_have_no_columns_of_their_own(self) -> None:
+        columns = [{0: 1, 1: 1}, {0: 1, 1: -1}]
+        with self.assertRaises(NoVector):
+            Lattice(columns, [[0], [1]], Kind.SPARSE)
+        self.assertEqual(Lattice(columns, [[0], [1]], Kind.QUICK).near([0, 0], {0: 2}), [-1, -1])
 
     def test_what_a_sparse_lattice_misses(self) -> None:
         # Row 2 reaches 4 by its own column. The only vectors that reach less there are combinations of one that
@@ -119,7 +125,7 @@ class Quick(unittest.TestCase):
         columns = [{2: 4}, {1: 1, 2: 1}, {0: 1, 1: 1}, {0: 1, 1: 2}, *({row: 1} for row in range(3, 8))]
         groups = [[row] for row in range(8)]
         with self.assertRaises(NoVector):
-            Lattice(columns, groups, quick=True).near([0] * 9, {2: 1})
+            Lattice(columns, groups, Kind.SPARSE).near([0] * 9, {2: 1})
         x, y, z, w, *_ = Lattice(columns, groups).near([0] * 9, {2: 1})
         self.assertEqual((z + w, y + z + 2 * w, 4 * x + y), (0, 0, -1))
 

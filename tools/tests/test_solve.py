@@ -408,14 +408,14 @@ class Short(Answers):
         self.assertEqual([len(one.bearings) for one in rounding.unknowns], [1, 1, 2])
         self.balances(*rounding.least())
 
-    def test_a_quick_lattice_and_then_a_thorough_one(self) -> None:
+    def test_a_sparse_lattice_a_quick_one_and_then_a_thorough_one(self) -> None:
         inner = linear.inner(self.pushed, self.pushed.dead)
         assert inner is not None
-        made: list[bool] = []
+        made: list[lattice.Kind] = []
 
         def refused(rounding: short.Rounding) -> short.Forces:
-            made.append(rounding.lattice.quick)
-            if rounding.lattice.quick:
+            made.append(rounding.lattice.kind)
+            if rounding.lattice.kind is not lattice.Kind.THOROUGH:
                 raise lattice.NoVector
             return least(rounding)
 
@@ -423,11 +423,11 @@ class Short(Answers):
         self.balances(*short.short_forces(self.pushed, inner.amounts, self.pushed.dead))
         with mock.patch.object(short.Rounding, "least", refused):
             self.balances(*short.short_forces(self.pushed, inner.amounts, self.pushed.dead))
-        self.assertEqual(made, [True, False])
+        self.assertEqual(made, [*lattice.Kind])
         with mock.patch.object(short, "SHORT", 1), mock.patch.object(short.Rounding, "least", autospec=True,
                                                                     side_effect=least) as tried:
             self.balances(*short.short_forces(self.pushed, inner.amounts, self.pushed.dead))
-        self.assertEqual([one.args[0].lattice.quick for one in tried.call_args_list], [True, False])
+        self.assertEqual([one.args[0].lattice.kind for one in tried.call_args_list], [*lattice.Kind])
 
 
 class Refusals(Answers):

@@ -14,6 +14,7 @@ import random
 import sys
 from array import array
 from collections.abc import Iterable, Sequence
+from enum import Enum
 from functools import cached_property, lru_cache
 from heapq import heappop, heappush
 from itertools import count
@@ -25,7 +26,7 @@ from masonry.lp.supports import Echelon, Sums, Supports, grows
 
 TOGETHER, QUICK_TOGETHER = 24, 8  # so many vectors are reduced together, or a few more where the sums need them
 SHADOW, QUICK_SHADOW = 64, 32  # the numbers of a shadow
-FEW_POOR = 2  # a quick lattice is sparse if at most one group of so many is poor
+FEW_POOR = 2  # a lattice may be sparse if at most one group of so many is poor
 LIGHT = 40  # bits of the least weight of sums beside lengths
 SURE = 2**46  # multiples below this, found in floating point, are right to a small part of 1
 
@@ -33,7 +34,17 @@ Number = TypeVar("Number", int, float)
 
 
 class NoVector(Exception):
-    """No whole vector has these sums."""
+    """No whole vector has these sums, or no lattice of this kind is made."""
+
+
+class Kind(Enum):
+    """A quick lattice is made in less time, and its vectors are longer. A sparse one is made in still less: it keeps no
+    vector that touches only groups that stand by themselves, so it may not clear all sums that can be cleared, and has
+    no basis. It's made only where half of the groups or more do."""
+
+    SPARSE = 1
+    QUICK = 2
+    THOROUGH = 3
 
 
 class Vector:
@@ -363,22 +374,24 @@ def signs(unknown: int) -> list[int]:
 class Lattice:
     """The whole vectors of unknowns that have no sums. Each row is in one of the groups."""
 
-    def __init__(self, columns: Sequence[Sums], groups: Sequence[Sequence[int]], quick: bool = False) -> None:
-        """A column is a dictionary from rows to amounts. A quick lattice is made in less time, and its vectors are
-        longer. Where half of the groups or more stand by themselves it is sparse: it keeps no vector that touches only
-        these, so it may not clear all sums that can be cleared, and has no basis."""
-        self.columns, self.groups, self.quick = columns, groups, quick
+    def __init__(self, columns: Sequence[Sums], groups: Sequence[Sequence[int]], kind: Kind = Kind.THOROUGH) -> None:
+        """A column is a dictionary from rows to amounts."""
+        self.columns, self.groups, self.kind = columns, groups, kind
         self.steps: list[Step] = []
         self.bits = 0  # of the weight of sums at the last step
         self.basis: list[Vector] = []
         self.group_of = {row: g for g, group in enumerate(groups) for row in group}
-        numbers = QUICK_SHADOW if quick else SHADOW
+        numbers = SHADOW if kind is Kind.THOROUGH else QUICK_SHADOW
         self.reduce([Vector(column, signs(j)[:numbers], unknown=j) for j, column in enumerate(columns)])
 
     def supports(self) -> Supports | None:
         """The order of the groups of a sparse lattice."""
-        found = Supports(self.columns, self.groups) if self.quick else None
-        return found if found and FEW_POOR * len(found.poor) <= len(self.groups) else None
+        if self.kind is not Kind.SPARSE:
+            return None
+        found = Supports(self.columns, self.groups)
+        if FEW_POOR * len(found.poor) > len(self.groups):
+            raise NoVector
+        return found
 
     def reduce(self, fresh: list[Vector]) -> None:
         """Uses up the groups, first the one that the fewest vectors touch; then those of a sparse lattice that have
@@ -416,7 +429,7 @@ class Lattice:
         others: list[Vector] = []
         reached: Echelon = [None] * len(group)
         bits = sum(max((abs(vector.sums.get(row, 0)) for vector in taken), default=0).bit_length() for row in group)
-        most = QUICK_TOGETHER if self.quick else TOGETHER
+        most = TOGETHER if self.kind is Kind.THOROUGH else QUICK_TOGETHER
         for vector in taken:
             grew = grows(reached, vector.at(group))
             (first if grew or len(first) < min(6 + bits // 2, most) else others).append(vector)

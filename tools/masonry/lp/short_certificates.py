@@ -10,7 +10,7 @@ from functools import cached_property
 from math import gcd, isqrt, lcm
 from typing import TypeVar
 
-from masonry.lp.lattice import Lattice, NoVector, Reduction, dot, squared
+from masonry.lp.lattice import Kind, Lattice, NoVector, Reduction, dot, squared
 from masonry.lp.linear import Amounts, Opening
 from masonry.numbers import lowest
 from masonry.statics import Column, GREATEST, Motion, NotFound, Part, Structure
@@ -60,17 +60,19 @@ class Unknown:
         return first - second >> FINER - FINE
 
 
-# By the bearings and parts of their unknowns, and whether they are quick.
-Lattices = dict[tuple[bool, tuple[tuple[tuple[int, ...], Part], ...]], Lattice]
+# By their kind and the bearings and parts of their unknowns; None where none is made.
+Lattices = dict[tuple[Kind, tuple[tuple[tuple[int, ...], Part], ...]], Lattice | None]
 
 
-def lattice_of(structure: Structure, found: Sequence[Unknown], kept: Lattices, quick: bool = False) -> Lattice:
+def lattice_of(structure: Structure, found: Sequence[Unknown], kept: Lattices, kind: Kind = Kind.THOROUGH) -> Lattice:
     """The lattice of forces without a load, made once."""
-    key = quick, tuple((tuple(one.bearings), one.part) for one in found)
+    key = kind, tuple((tuple(one.bearings), one.part) for one in found)
     if key not in kept:
-        columns = [structure.column(one.bearings[0], one.part) for one in found]
-        kept[key] = Lattice(columns, structure.blocks, quick)
-    return kept[key]
+        kept[key] = None
+        kept[key] = Lattice([structure.column(one.bearings[0], one.part) for one in found], structure.blocks, kind)
+    if (lattice := kept[key]) is None:
+        raise NoVector
+    return lattice
 
 
 class NoForces(NotFound):
@@ -87,7 +89,7 @@ class Rounding:
     """
 
     def __init__(self, structure: Structure, amounts: Amounts, load: Sequence[int], kept: Lattices | None = None,
-                 quick: bool = False) -> None:
+                 kind: Kind = Kind.THOROUGH) -> None:
         self.structure = structure
         used: dict[int, list[Part]] = {}
         parts: dict[int, Part] = {}  # in units of 2^-FINER
@@ -103,7 +105,7 @@ class Rounding:
         self.fine = [one.amount() for one in self.unknowns]
         self.longest = max((abs(x) >> FINER for part in parts.values() for x in part), default=0).bit_length()
         self.load = {row: x for row, x in enumerate(load) if x}
-        self.lattice = lattice_of(structure, self.unknowns, {} if kept is None else kept, quick)
+        self.lattice = lattice_of(structure, self.unknowns, {} if kept is None else kept, kind)
         self.unit = abs(self.reaching()[-1])
         self.bits = 0  # the scale at which forces were found last
         self.multiple = 1  # how many times the least scale should do, after what was tried last
@@ -183,7 +185,7 @@ class Rounding:
         if found and self.unit * self.multiple < found[0]:
             found = self.of(self.unit * self.multiple) or found
         if found is None:
-            if not self.lattice.quick and len(self.lattice.basis) < SMALL:
+            if self.lattice.kind is Kind.THOROUGH and len(self.lattice.basis) < SMALL:
                 self.refute()
             raise NotFound("no forces of 127 bits were found")
         return found
@@ -285,15 +287,16 @@ def is_short(forces: Forces) -> bool:
 def short_forces(structure: Structure, amounts: Amounts, load: Sequence[int], tried: Tried | None = None,
                  kept: Lattices | None = None) -> Forces:
     """A scale and whole parts of all bearings, near given amounts, that carry the scale times a whole load. The
-    lattices that are made are kept, by the unknowns, for structures with the same bearings. If a quick lattice finds
-    none, or long ones, a thorough one is made."""
+    lattices that are made are kept, by the unknowns, for structures with the same bearings. If a sparse lattice
+    finds none, or long ones, a quick one is made, and then a thorough one."""
     tried, kept = tried or Tried(), {} if kept is None else kept
     before = tried.bits
-    with suppress(NoVector, NotFound, ArithmeticError):
-        found = tried.forces(Rounding(structure, amounts, load, kept, quick=True))
-        if is_short(found):
-            return found
-    tried.bits = before
+    for kind in Kind.SPARSE, Kind.QUICK:
+        with suppress(NoVector, NotFound, ArithmeticError):
+            found = tried.forces(Rounding(structure, amounts, load, kept, kind))
+            if is_short(found):
+                return found
+        tried.bits = before
     try:
         return tried.forces(Rounding(structure, amounts, load, kept))
     except NoVector:
