@@ -1,11 +1,13 @@
 -- A row step at one cell, and over a row.
 use Rattle.std.proofs.Common.{◌≡◌, sym, ap, subst, ◌∙◌, ℕ, List, Option, None, arith, ℤ, pos}
-use Rattle.std.proofs.Common.{nat_abs, ◌*ℤ◌, ◌-ℤ◌}
+use Rattle.std.proofs.Common.{nat_abs, ◌*ℤ◌, ◌-ℤ◌, ◌-◌, [], ◌∷◌, ◌++◌, length}
+use Rattle.std.proofs.lemmas.List.{length_push}
 use Rattle.stack_rational.proofs.Common.{cancel, Fraction, expand, sums, ◌≺◌, mul_pos, over, over-is, ordered_fractions}
 use Rattle.stack_rational.proofs.Common.{widest, is_too_wide}
 use Rattle.stack_table.specs.declared.types.Step.{Step}
 use Rattle.stack_table.specs.Spots.{reduced, reduce_item}
-use Rattle.stack_rows.specs.RowForm.{number_at, StepFits, IsTaken}
+use Rattle.stack_rows.specs.RowForm.{number_at, StepFits, IsTaken, IsRight}
+use Rattle.stack_rows.proofs.Sided.{side_is, without_sides}
 use Rattle.stack_inverse.specs.CellSteps.{spot_at, TellsStep}
 use Rattle.stack_inverse.proofs.Bounds.{step_none}
 use Rattle.stack_inverse.proofs.StepCell.{step_cell}
@@ -23,6 +25,15 @@ pub told_cell : (n d r e f k t : ℤ) → pos 0 ≺ d → pos 0 ≺ e → pos 0 
 told_cell n d r e f k t hd he hk c z is =
     subst (λ (x : Fraction). x.num *ℤ (d *ℤ k) ≡ (n *ℤ k -ℤ t *ℤ r) *ℤ pos x.den)
     (step_cell n f d r e k t hd he hk c ∙ sym is) (over-is (n *ℤ k -ℤ t *ℤ r) (d *ℤ k) (mul_pos d k hd hk)).cross
+
+-- what is told of the right sides of two rows is what a step makes of the right side
+pub told_right : (old pivot : List ℤ) (r p w k t n e : ℤ) → length (pivot ++ p ∷ []) ≡ length (old ++ r ∷ []) →
+    n *ℤ w ≡ (r *ℤ k -ℤ t *ℤ p) *ℤ e → IsRight (old ++ r ∷ []) w (pivot ++ p ∷ []) k t n e
+told_right old pivot r p w k t n e long h =
+    let last : length (old ++ r ∷ []) - 1 ≡ length old = omega (arith, length_push old r) in
+    let own = side_is old r (length (old ++ r ∷ []) - 1) last in
+    let other = side_is pivot p (length (old ++ r ∷ []) - 1) (last ∙ sym (without_sides old pivot r p long)) in
+    h ∙ (λ i. (sym own i *ℤ k -ℤ t *ℤ sym other i) *ℤ e)
 
 -- what is told of the numbers of a column is told of its cells
 pub step_told : (x p : ℕ → ℤ) (d e : ℤ) (k : Fraction) (i j : ℕ) (o : Option Step) {number other under : ℤ} →

@@ -21,7 +21,6 @@ pub mod SmallSteps
 pub mod RowByCells
 pub mod CellSteps
 pub mod LeastNegative
-pub mod Bits
 pub mod Marked
 pub mod PivotedZeros
 pub mod PlacesKept

@@ -1,11 +1,17 @@
 -- Lists of marks, one of which is read or written.
-use Rattle.std.proofs.Common.{◌≡◌, ◌≢◌, sym, ap, subst, ◌∙◌, ℕ, ◌<◌, List, [], ◌∷◌, length, length-set}
-use Rattle.std.proofs.Common.{get_or, set, arith}
+use Rattle.std.proofs.Common.{◌≡◌, ◌≢◌, sym, ap, subst, ◌∙◌, ℕ, suc, ◌<◌, List, [], ◌∷◌, length, length-set}
+use Rattle.std.proofs.Common.{get_or, set, arith, pos}
+use Rattle.std.proofs.lemmas.List.{length_push}
 use Rattle.std.specs.List.{AllByRecursion}
 use Rattle.stack_rational.proofs.Common.{ℕ_discrete, get_or-map}
 use Rattle.stack_rows.proofs.Items.{at-set_same, at-set_other}
 use Rattle.stack_inverse.specs.declared.columns.Cell.{Cell}
-use Rattle.stack_inverse.specs.declared.marks.Marks.{Marks}
+use Rattle.stack_rows.specs.declared.marks.Marks.{Marks}
+use Rattle.stack_rows.specs.declared.pivot.Pivot.{Pivot}
+use Rattle.stack_rows.specs.RowForm.{number_at}
+use Rattle.stack_rows.specs.EntriesSeen.{entries_of}
+use Rattle.stack_rows.specs.RowSeen.{numbers_of}
+use Rattle.stack_rows.proofs.Sided.{before_is}
 use Rattle.stack_inverse.specs.Marks.{list_at, HaveWords}
 
 -- the words of a list
@@ -46,3 +52,22 @@ module _ (lists : List Marks) (r : ℕ) (d new : Marks) {now : List Marks} (lt :
   pub wide_put : (w : ℕ) → HaveWords lists w → HaveWords now w
   wide_put w h k l = list_put (λ _ m. length m ≡ w) k (λ _. h k (omega (arith, l, ap length put, length-set lists r)))
       (long ∙ ap length (list_lent lists r d lt) ∙ h r lt)
+
+-- places that a pivot row lists, of which there are at most n
+module _ (p : Pivot) (n : ℕ) (long : length (numbers_of p.row) ≡ suc n) where
+  pub listed_in : (a : ℕ) → a < p.listed → get_or p.list.items a 0 < n
+  listed_in a l = omega (
+    arith,
+    p.places.within a l,
+    ap length p.same,
+    long,
+    length_push (entries_of p.row.entries) p.row.right,
+  )
+
+  -- what follows for each listed place follows for one with something
+  pub each_listed : {P : Type 0} (r : ℕ) → r < n → number_at (numbers_of p.row) r ≢ pos 0 → Dec P →
+      ((a : ℕ) → a < p.listed → get_or p.list.items a 0 ≡ r → P) → P
+  each_listed r l h (yes x) f = x
+  each_listed r l h (no d) f = absurd (h (before_is (entries_of p.row.entries) p.row.right r
+      (omega (arith, l, long, length_push (entries_of p.row.entries) p.row.right))
+      ∙ ap (λ xs. number_at xs r) (sym p.same) ∙ p.places.others r (λ a b e. d (f a b e))))

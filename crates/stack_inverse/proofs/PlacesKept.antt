@@ -6,14 +6,15 @@ use lib.IntN.{ℤ_discrete}
 use Rattle.stack_rational.proofs.Common.{ℕ_discrete}
 use Rattle.stack_inverse.specs.declared.first.First.{First}
 use Rattle.stack_inverse.specs.declared.marking.Marking.{Marking}
-use Rattle.stack_inverse.specs.declared.marks.Marks.{Marks}
+use Rattle.stack_rows.specs.declared.marks.Marks.{Marks}
 use Rattle.stack_inverse.specs.declared.to_visit.ToVisit.{ToVisit}
 use Rattle.stack_rows.specs.RowForm.{number_at}
 use Rattle.stack_inverse.specs.RowBlock.{KeepsZeros}
 use Rattle.stack_inverse.specs.Columns.{RowSeen, multipliers}
 use Rattle.stack_inverse.specs.RowsSeen.{number_in_row}
 use Rattle.stack_inverse.specs.FirstTable.{AreFilled, load_at}
-use Rattle.stack_inverse.specs.Marks.{mark_in, mark_at, ArePlaces, AreUses, AreClean}
+use Rattle.stack_rows.specs.Marks.{mark_in}
+use Rattle.stack_inverse.specs.Marks.{mark_at, ArePlaces, AreUses, AreClean}
 use Rattle.stack_inverse.specs.Marking.{AreMarks, AreMarkedOn, IsMarkedOn}
 
 -- whether a number is 0

@@ -1,9 +1,12 @@
 -- A row of many that is written.
 use Rattle.std.proofs.Common.{◌≡◌, ◌≢◌, sym, ap, subst, ◌∙◌, ℕ, suc, ◌+◌, ◌<◌, ◌≤◌, Bool, true, false, List, [], ◌∷◌}
 use Rattle.std.proofs.Common.{length, set, slice_index_or, get_or, zero, arith, ℤ, pos}
+use Rattle.std.proofs.lemmas.List.{length_push}
+use Rattle.stack_rows.specs.EntriesSeen.{entries_of}
 use Rattle.std.specs.declared.vec.Vec.{Vec}
 use Rattle.stack_rational.proofs.Common.{ℕ_discrete, ints, Fraction, ◌≺◌, fraction_fits, with_items}
 use Rattle.stack_rational.proofs.Common.{with_items_is}
+use Rattle.stack_rows.specs.RowSeen.{numbers_of}
 use Rattle.stack_rows.proofs.Items.{at-index, at-set_same, at-set_other, at-past}
 use Rattle.stack_inverse.specs.declared.row.TableRow.{TableRow}
 use Rattle.stack_inverse.specs.RowBlock.{AllNumbersFit, AreFitting}
@@ -41,9 +44,18 @@ seen_get rows i x l e = sym (at-index seen_of no_row rows i x l e)
 
 -- its width
 pub width_get : (m : ℕ) (rows : List TableRow) (i : ℕ) (x : TableRow) → length rows ≡ suc m → i ≤ m →
-    HaveWidths m (seen_at rows) → x ≡ get_or rows i x → length x.row.numbers.items ≡ suc (multipliers m)
+    HaveWidths m (seen_at rows) → x ≡ get_or rows i x → length (numbers_of x.row) ≡ suc (multipliers m)
 width_get m rows i x h l widths e = ap (λ (s : RowSeen). length s.numbers)
     (seen_get rows i x (omega (arith, h, l)) e) ∙ widths i l
+
+-- and how many numbers it has without the right side
+pub entries_get : (m : ℕ) (rows : List TableRow) (i : ℕ) (x : TableRow) → length rows ≡ suc m → i ≤ m →
+    HaveWidths m (seen_at rows) → x ≡ get_or rows i x → length (entries_of x.row.entries) ≡ multipliers m
+entries_get m rows i x h l widths e = omega (
+  arith,
+  width_get m rows i x h l widths e,
+  length_push (entries_of x.row.entries) x.row.right,
+)
 
 module _ (rows : List TableRow) (i : ℕ) (new : TableRow) (lt : i < length rows) where
   -- it, and the others
@@ -54,7 +66,7 @@ module _ (rows : List TableRow) (i : ℕ) (new : TableRow) (lt : i < length rows
   other k n = at-set_other seen_of no_row rows i k new n
 
   -- all have their widths
-  pub widths_set : (m : ℕ) → HaveWidths m (seen_at rows) → length new.row.numbers.items ≡ suc (multipliers m) →
+  pub widths_set : (m : ℕ) → HaveWidths m (seen_at rows) → length (numbers_of new.row) ≡ suc (multipliers m) →
       HaveWidths m (seen_at (set rows i new))
   widths_set m h e k l = elim (ℕ_discrete k i) [
     | yes p ↦ ap (λ (s : RowSeen). length s.numbers) (ap (seen_at (set rows i new)) p ∙ own) ∙ e
@@ -87,7 +99,7 @@ module _ (rows : List TableRow) (i : ℕ) (new : TableRow) (lt : i < length rows
   ]
 
   -- a row of these numbers is put
-  pub put_is : (numbers : List ℤ) (under : ℤ) (fits : Bool) → new.row.numbers.items ≡ numbers →
+  pub put_is : (numbers : List ℤ) (under : ℤ) (fits : Bool) → numbers_of new.row ≡ numbers →
       new.row.under ≡ under → new.fits ≡ fits →
       IsPut (seen_at rows) i numbers under fits (seen_at (set rows i new))
   put_is numbers under fits hn hu hf = record {

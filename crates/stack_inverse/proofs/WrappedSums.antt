@@ -1,7 +1,6 @@
 -- A sum of products with words, made without a test whether it fits on the way.
-use Rattle.std.proofs.Common.{◌≡◌, refl, sym, ap, subst, ◌∙◌, ℕ, suc, ◌+◌, ◌-◌, ◌*◌, ◌^◌, ◌<◌, ◌≤◌, cond, ltb}
-use Rattle.std.proofs.Common.{List, [], ◌∷◌, length, get_or, drop, arith, mul-le-mul, ℤ, pos, nat_abs, ◌+ℤ◌, ◌*ℤ◌}
-use Rattle.std.proofs.Common.{SFits, Option, Some, None, IfSome, OnSome}
+use Rattle.std.proofs.Common.{◌≡◌, refl, sym, ap, subst, ◌∙◌, ℕ, ◌+◌, ◌*◌, ◌^◌, ◌<◌, ◌≤◌, leb, cond, List, [], ◌∷◌}
+use Rattle.std.proofs.Common.{length, get_or, drop, arith, mul-le-mul, ℤ, pos, nat_abs, ◌+ℤ◌, ◌*ℤ◌, SFits}
 use Rattle.std.specs.Int.{w128, int_wrap}
 use Rattle.std.specs.List.{AllByRecursion}
 use Rattle.std.proofs.lemmas.Bool.Decides.{nat_tests}
@@ -10,7 +9,7 @@ use Rattle.std.proofs.lemmas.List.{at_drop_all}
 use Rattle.stack_rational.proofs.Common.{ints, sum_of}
 use Rattle.stack_inverse.specs.declared.columns.Cell.{Cell}
 use Rattle.stack_inverse.specs.declared.columns.FirstColumn.{FirstColumn}
-use Rattle.stack_rows.specs.RowForm.{number_at, IsTopped}
+use Rattle.stack_rows.specs.RowForm.{number_at}
 use Rattle.stack_inverse.specs.Columns.{multipliers, combined, entry_of, sizes, cells_at, AreFirst}
 use Rattle.stack_inverse.proofs.Entered.{Rises, rises_of, over_entries}
 use Rattle.stack_inverse.proofs.Linear.{combined_within}
@@ -36,51 +35,45 @@ all_wrapped f cells k sum fits done h = sym (int_wrap_fits w128 sum fits)
     ∙ ap (int_wrap w128) (omega (arith, ints, at_drop_all (sum_of f) cells k done)) ∙ h
 
 module _ (row : List ℤ) where
-  -- the numbers of a row, and 0 for its last one
-  abbrev but_last : ℕ → ℤ
-  but_last r = cond (ltb (suc r) (length row)) (number_at row r) (pos 0)
+  -- the words of a row, and 0 for what isn't one
+  abbrev word_at : ℕ → ℤ
+  word_at r = cond (leb (nat_abs (number_at row r)) (2 ^ 63)) (number_at row r) (pos 0)
 
-  -- over cells none of which is in the last place the sum is the same
-  same_sum : (cells : List Cell) → AllByRecursion (λ x. suc x.row < length row) cells →
-      sum_of (λ x. number_at row x.row *ℤ x.value) cells ≡ sum_of (λ x. but_last x.row *ℤ x.value) cells
+  -- over cells that stand at words the sum is the same
+  same_sum : (cells : List Cell) → AllByRecursion (λ x. nat_abs (number_at row x.row) ≤ 2 ^ 63) cells →
+      sum_of (λ x. number_at row x.row *ℤ x.value) cells ≡ sum_of (λ x. word_at x.row *ℤ x.value) cells
   same_sum [] h = refl
-  same_sum (x ∷ xs) h = let here : number_at row x.row ≡ but_last x.row = grind (arith, nat_tests, h.0) in
+  same_sum (x ∷ xs) h = let here : number_at row x.row ≡ word_at x.row = grind (arith, nat_tests, h.0) in
       λ i. here i *ℤ x.value +ℤ same_sum xs h.1 i
 
-  -- what is made of a row of words and a narrow column fits
-  pub unwrapped : (m top column_top : ℕ) (cells : List Cell) → Rises m 0 cells → IsTopped row top →
-      AllByRecursion (λ x. suc x.row < length row) cells → sizes m (entry_of cells) ≤ column_top →
-      top ≤ 2 ^ 63 - 1 → column_top ≤ 2 ^ 62 →
+  -- what is made of words and a narrow column fits
+  pub unwrapped : (m column_top : ℕ) (cells : List Cell) → Rises m 0 cells →
+      AllByRecursion (λ x. nat_abs (number_at row x.row) ≤ 2 ^ 63) cells → sizes m (entry_of cells) ≤ column_top →
+      column_top ≤ 2 ^ 62 →
       int_wrap w128 (sum_of (λ x. number_at row x.row *ℤ x.value) cells)
       ≡ sum_of (λ x. number_at row x.row *ℤ x.value) cells
-  unwrapped m top column_top cells rises topped below within words narrow =
-      let each : (r : ℕ) → r < m → nat_abs (but_last r) ≤ top = λ r l. grind (arith, nat_tests, topped r) in
-      let made : sum_of (λ x. number_at row x.row *ℤ x.value) cells ≡ combined m but_last (entry_of cells) =
-      same_sum cells below ∙ sym (over_entries m 0 but_last cells rises) in
+  unwrapped m column_top cells rises words within narrow =
+      let each : (r : ℕ) → r < m → nat_abs (word_at r) ≤ 2 ^ 63 = λ r l. grind (arith, nat_tests) in
+      let made : sum_of (λ x. number_at row x.row *ℤ x.value) cells ≡ combined m word_at (entry_of cells) =
+      same_sum cells words ∙ sym (over_entries m 0 word_at cells rises) in
       let small : sizes m (entry_of cells) ≤ 2 ^ 62 = omega (arith, within, narrow) in
-      let size : top * sizes m (entry_of cells) ≤ (2 ^ 63 - 1) * 2 ^ 62 = mul-le-mul words small in
+      let size : 2 ^ 63 * sizes m (entry_of cells) ≤ 2 ^ 63 * 2 ^ 62 =
+      mul-le-mul {n₁ = 2 ^ 63} {n₂ = 2 ^ 63} (omega arith) small in
       int_wrap_fits w128 _ (fits_signed_from_abs w128 _ (omega (
         arith,
         ap nat_abs made,
-        combined_within m top but_last (entry_of cells) each,
+        combined_within m (2 ^ 63) word_at (entry_of cells) each,
         size,
       )))
 
--- what follows from two clauses
-pub if_both : {P : Type 0} (r : Option ℤ) (x y : ℤ) → IfSome r (λ z. z ≡ x) → OnSome r P → (P → x ≡ y) →
-    IfSome r (λ z. z ≡ y)
-if_both None x y h p f = tt
-if_both (Some z) x y h p f = h ∙ f p
-
 -- so it is the sum itself, over the cells of a column that are lent
 pub narrow_sum : (m column_top : ℕ) (columns : List FirstColumn) → AreFirst m (length columns) columns column_top →
-    column_top ≤ 2 ^ 62 → (row : List ℤ) (top : ℕ) → IsTopped row top → top ≤ 2 ^ 63 - 1 →
-    (j : ℕ) → j < length columns → (cells : List Cell) → cells ≡ cells_at columns j →
-    AllByRecursion (λ x. suc x.row < length row) cells →
+    column_top ≤ 2 ^ 62 → (row : List ℤ) (j : ℕ) → j < length columns → (cells : List Cell) →
+    cells ≡ cells_at columns j → AllByRecursion (λ x. nat_abs (number_at row x.row) ≤ 2 ^ 63) cells →
     int_wrap w128 (sum_of (λ x. number_at row x.row *ℤ x.value) cells)
     ≡ sum_of (λ x. number_at row x.row *ℤ x.value) cells
-narrow_sum m column_top columns first narrow row top topped words j l cells is below =
+narrow_sum m column_top columns first narrow row j l cells is words =
     let M = multipliers m in
     let at = subst (λ cs. Rises M 0 cs) (sym is) (rises_of M 0 (cells_at columns j) (first.rising j l)) in
     let within = subst (λ cs. sizes M (entry_of cs) ≤ column_top) (sym is) (first.within j l) in
-    unwrapped row M top column_top cells at topped below within words narrow
+    unwrapped row M column_top cells at words within narrow

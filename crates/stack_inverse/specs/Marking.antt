@@ -5,7 +5,8 @@ use Rattle.stack_inverse.specs.declared.first.First.{First}
 use Rattle.stack_inverse.specs.declared.marking.Marking.{Marking}
 use Rattle.stack_inverse.specs.Columns.{RowSeen, multipliers}
 use Rattle.stack_inverse.specs.RowsSeen.{number_in_row}
-use Rattle.stack_inverse.specs.Marks.{mark_in, mark_at, ArePlaces, AreUses, AreClean}
+use Rattle.stack_rows.specs.Marks.{mark_in}
+use Rattle.stack_inverse.specs.Marks.{mark_at, ArePlaces, AreUses, AreClean}
 
 -- the marks of rows and of the first rows
 pub record AreMarks (f : First) (s : ℕ → RowSeen) (k : Marking) : Type 0 where

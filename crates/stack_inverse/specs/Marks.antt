@@ -1,18 +1,14 @@
--- Marks, a bit each: a place without a mark has nothing.
-use Rattle.std.specs.Prelude.{◌≡◌, ◌≢◌, ℕ, ◌<◌, ◌/◌, ◌%◌, List, [], length, get_or, map, ℤ, pos, Option, false}
-use Rattle.std.specs.Int.{bit_at}
+-- Lists of marks: a place without a mark has nothing.
+use Rattle.std.specs.Prelude.{◌≡◌, ◌≢◌, ℕ, ◌<◌, List, [], length, get_or, map, ℤ, pos, Option, false}
 use Rattle.std.specs.List.{AllByRecursion}
 use Rattle.stack_algebra.specs.Ordered.{sign_of}
 use Rattle.stack_algebra.specs.Search.{least}
 use Rattle.stack_bland.specs.Choice.{is_negative_sign}
 use Rattle.stack_inverse.specs.declared.columns.FirstColumn.{FirstColumn}
-use Rattle.stack_inverse.specs.declared.marks.Marks.{Marks}
+use Rattle.stack_rows.specs.declared.marks.Marks.{Marks}
+use Rattle.stack_rows.specs.Marks.{mark_in}
 use Rattle.stack_inverse.specs.Columns.{RowSeen, multipliers, cells_at}
 use Rattle.stack_rows.specs.RowForm.{number_at}
-
--- the mark of place j, which is 0 past the last word
-unfoldable pub mark_in : (words : List ℕ) (j : ℕ) → ℕ
-mark_in words j = bit_at (get_or words (j / 64) 0) (j % 64)
 
 -- the words of list r, none past the last list
 abbrev pub list_at : List Marks → ℕ → List ℕ

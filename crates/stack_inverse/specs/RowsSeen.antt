@@ -6,11 +6,12 @@ use Rattle.stack_inverse.specs.declared.row.TableRow.{TableRow}
 use Rattle.stack_inverse.specs.declared.row.PivotRow.{PivotRow}
 use Rattle.stack_inverse.specs.RowBlock.{AreWithin, IsReduced}
 use Rattle.stack_rows.specs.RowForm.{number_at}
+use Rattle.stack_rows.specs.RowSeen.{numbers_of}
 use Rattle.stack_inverse.specs.Columns.{RowSeen, at_value, no_row, multipliers, number_with, cell_with, revised_cell}
 
 -- a row, and row i
 abbrev pub seen_of : TableRow → RowSeen
-seen_of r = record { numbers = r.row.numbers.items; under = r.row.under; fits = r.fits }
+seen_of r = record { numbers = numbers_of r.row; under = r.row.under; fits = r.fits }
 
 abbrev pub seen_at : List TableRow → ℕ → RowSeen
 seen_at rows i = at_value seen_of no_row rows i
@@ -32,15 +33,15 @@ columns_of f = suc (length f.columns.items + f.rows)
 
 -- the cell of the pivot row in a column
 abbrev pub pivot_cell : First → PivotRow → ℕ → Fraction
-pivot_cell f q j = cell_with f.rows f.columns.items q.row.numbers.items q.row.under j
+pivot_cell f q j = cell_with f.rows f.columns.items (numbers_of q.divided.row) q.divided.row.under j
 
 -- row i is reduced by the pivot row, and keeps its zeros
 abbrev pub IsReducedBy : ℤ → First → RowSeen → PivotRow → (i column : ℕ) → RowSeen → Type 0
-IsReducedBy m f old q i column new = IsReduced m f.rows f.columns.items old.numbers old.under q.row.numbers.items
-    q.row.under i column new.numbers new.under
+IsReducedBy m f old q i column new = IsReduced m f.rows f.columns.items old.numbers old.under (numbers_of q.divided.row)
+    q.divided.row.under i column new.numbers new.under
 
 -- no number that is made of a pivot row is greater in size than its top, and none that it keeps
 pub record IsPivotRow (f : First) (q : PivotRow) : Type 0 where
-  pub width : length q.row.numbers.items ≡ suc (multipliers f.rows)
-  pub within : AreWithin (number_with f.rows f.columns.items q.row.numbers.items) q.whole_top
-  pub kept : AreWithin (number_at q.row.numbers.items) q.whole_top
+  pub width : length (numbers_of q.divided.row) ≡ suc (multipliers f.rows)
+  pub within : AreWithin (number_with f.rows f.columns.items (numbers_of q.divided.row)) q.whole_top
+  pub kept : AreWithin (number_at (numbers_of q.divided.row)) q.whole_top

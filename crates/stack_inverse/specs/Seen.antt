@@ -9,7 +9,7 @@ use Rattle.stack_table.specs.Block.{shape_of}
 use Rattle.stack_inverse.specs.declared.revised_table.RevisedTable.{RevisedTable}
 use Rattle.stack_inverse.specs.Columns.{multipliers, cell_with, revised_number, AreEntered}
 use Rattle.stack_inverse.specs.RowsSeen.{seen_at, cells_of_rows}
-use Rattle.stack_inverse.specs.Marks.{mark_in}
+use Rattle.stack_rows.specs.Marks.{mark_in}
 
 -- the numbers of rows, of contact columns and of factor columns
 abbrev pub shape_of_revised : RevisedTable → Shape

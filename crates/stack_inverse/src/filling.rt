@@ -89,6 +89,7 @@ pub fn zeros(alloc: Global, count: usize) -> Result<Vec<i128>, NoTable>
 
 /// Rows of `width` zeros, none known to fit.
 pub fn rows_of(alloc: Global, count: usize, width: u16) -> Result<Vec<TableRow>, NoTable>
+    requires { 0 < width }
     ensures height { IfOk result (λ r. length r.items ≡ count) }
     ensures widths { IfOk result (λ r. (i : ℕ) → i < count → length (seen_at r.items i).numbers ≡ width) }
     ensures unfit { IfOk result (λ r. (i : ℕ) → i < count → (seen_at r.items i).fits ≡ false) }

@@ -6,19 +6,20 @@ ghost use Rattle.std.specs.Int.{w128, int_wrap};
 ghost use Rattle.std.specs.List.{AllByRecursion};
 ghost use Rattle.stack_rational.specs.Laws.{widest};
 ghost use Rattle.stack_algebra.specs.Sums.{sum_of};
-ghost use Rattle.stack_rows.specs.RowForm.{number_at, IsTopped};
+ghost use Rattle.stack_rows.specs.RowForm.{number_at};
+ghost use Rattle.stack_rows.specs.EntriesSeen.{entries_of};
+ghost use Rattle.stack_rows.specs.RowSeen.{numbers_of};
+ghost use Rattle.stack_rows.specs.Marks.{mark_in};
 ghost use Rattle.stack_inverse.specs.RowBlock.{AreWithin, IsWholeTop};
 ghost use Rattle.stack_inverse.specs.Columns.{multipliers, number_with, cells_at, HaveWidths, AreEntered};
 ghost use Rattle.stack_inverse.specs.RowsSeen.{seen_of, seen_at, number_in_row};
-ghost use Rattle.stack_inverse.specs.Marks.{mark_in};
 
 use crate::columns::Cell;
-use crate::first::{COSTS, First};
-use crate::marks::Marks;
+use crate::first::First;
 use crate::objective::clear_row;
 use crate::row::TableRow;
 use num_traits::CheckedAdd;
-use stack_rows::{SMALL, product, product_of, size_product};
+use stack_rows::{Entries, Marks, Row, SMALL, product, product_of, size_product};
 
 /// A sum plus the product of a number and a word.
 fn added(sum: i128, number: i128, by: i64) -> Option<i128>
@@ -27,43 +28,36 @@ fn added(sum: i128, number: i128, by: i64) -> Option<i128>
     CheckedAdd::checked_add(&sum, &product(number, by)?)
 }
 
-/// The product of a number that is a word and a word.
-fn product_of_word(number: i128, by: i64) -> i128
-    requires { unsigned_abs number ≤ 2 ^ 63 - 1 }
-    ensures { result ≡ number *ℤ by }
-{
-    product_of(number as i64, by)
-}
-
 /// The sum of the products of a row with the numbers of a column.
-fn sum_over(cells: &[Cell], numbers: &[i128]) -> Option<i128>
-    ensures { IfSome result (λ r. r ≡ sum_of (λ x. number_at numbers.now x.row *ℤ x.value) cells.now) }
+fn sum_over(cells: &[Cell], entries: &Entries) -> Option<i128>
+    ensures sum { IfSome result (λ r. r ≡ sum_of (λ x. number_at (entries_of entries.now) x.row *ℤ x.value) cells.now) }
+    ensures below { OnSome result (AllByRecursion (λ x. x.row < length (entries_of entries.now)) cells.now) }
 {
+    let count = entries.count();
     let mut sum: i128 = 0;
     for cell in cells {
-        if cell.row >= numbers.len() {
+        if cell.row >= count {
             return None;
         }
-        sum = added(sum, numbers[cell.row], cell.value)?;
+        sum = added(sum, entries.at(cell.row), cell.value)?;
     }
     Some(sum)
 }
 
 /// The sum of the products of a row of words with the numbers of a column, without a test of the sum. It fits if the
 /// sizes of the column together aren't more than `SMALL`.
-fn sum_words(cells: &[Cell], numbers: &[i128]) -> Option<i128>
-    requires { IsTopped numbers.now (2 ^ 63 - 1) }
+fn sum_words(cells: &[Cell], words: &[i64]) -> Option<i128>
     ensures wrapped { IfSome result (λ r.
-        r ≡ int_wrap w128 (sum_of (λ x. number_at numbers.now x.row *ℤ x.value) cells.now)) }
-    ensures below { OnSome result (AllByRecursion (λ x. suc x.row < length numbers.now) cells.now) }
+        r ≡ int_wrap w128 (sum_of (λ x. number_at words.now x.row *ℤ x.value) cells.now)) }
+    ensures below { OnSome result (AllByRecursion (λ x. x.row < length words.now) cells.now) }
+    ensures words { OnSome result (AllByRecursion (λ x. unsigned_abs (number_at words.now x.row) ≤ 2 ^ 63) cells.now) }
 {
-    let count = numbers.len().checked_sub(1)?;
     let mut sum: i128 = 0;
     for cell in cells {
-        if cell.row >= count {
+        if cell.row >= words.len() {
             return None;
         }
-        sum = sum.wrapping_add(product_of_word(numbers[cell.row], cell.value));
+        sum = sum.wrapping_add(product_of(words[cell.row], cell.value));
     }
     Some(sum)
 }
@@ -74,25 +68,25 @@ pub fn number_of(first: &First, row: &TableRow, j: usize) -> Option<i128>
     ensures { IfSome result (λ r. r ≡ number_in_row first.now (seen_of row.now) j) }
 {
     let cells = first.columns[j].cells.as_slice();
-    let numbers = row.row.numbers.as_slice();
-    if row.row.top <= i64::MAX as u128 && first.top <= SMALL {
-        sum_words(cells, numbers)
+    let entries = &row.row.entries;
+    if !entries.wide && first.top <= SMALL {
+        sum_words(cells, entries.words.as_slice())
     } else {
-        sum_over(cells, numbers)
+        sum_over(cells, entries)
     }
 }
 
 /// The same. Also gives up if it or the right side of the row is the least number of all, whose size doesn't fit.
 fn sized_number(first: &First, row: &TableRow, j: usize) -> Option<i128>
     requires column_in { j < length first.now.columns.items }
-    requires width { length row.now.row.numbers.items ≡ suc (multipliers first.now.rows) }
+    requires width { length (numbers_of row.now.row) ≡ suc (multipliers first.now.rows) }
     ensures number { IfSome result (λ r. r ≡ number_in_row first.now (seen_of row.now) j) }
     ensures fit { IfSome result (λ r. unsigned_abs r ≤ unsigned_abs widest) }
-    ensures right_fits { OnSome result (unsigned_abs (number_at row.now.row.numbers.items
+    ensures right_fits { OnSome result (unsigned_abs (number_at (numbers_of row.now.row)
         (multipliers first.now.rows)) ≤ unsigned_abs widest) }
 {
     let number = number_of(first, row, j)?;
-    let right = row.row.numbers[first.rows + COSTS];
+    let right = row.row.right;
     if number == i128::MIN || right == i128::MIN {
         return None;
     }
@@ -138,18 +132,6 @@ pub fn enter_column(
     Some(())
 }
 
-/// The bits of the sizes of numbers, joined: a top of them.
-#[tactic(auto, using(std::proofs::lemmas::Nat::le_or_l, std::proofs::lemmas::Nat::le_or_r))]
-pub fn top_of(numbers: &[i128]) -> u128
-    ensures { (k : ℕ) → unsigned_abs (number_at numbers.now k) ≤ result }
-{
-    let mut size = 0;
-    for number in numbers {
-        size |= number.unsigned_abs();
-    }
-    size
-}
-
 /// The greater of two sizes.
 pub fn larger(a: u128, b: u128) -> u128
     ensures own { a ≤ result }
@@ -159,39 +141,39 @@ pub fn larger(a: u128, b: u128) -> u128
 }
 
 /// A top of all numbers of a row, by that of its multipliers. Likely gives up if it doesn't fit.
-pub fn whole_top(first: &First, numbers: &[i128], top: u128) -> Option<u128>
-    requires width { length numbers.now ≡ suc (multipliers first.now.rows) }
-    requires topped { IsTopped numbers.now top }
-    ensures { IfSome result (λ b. IsWholeTop first.now.rows numbers.now first.now.top b) }
+pub fn whole_top(first: &First, row: &Row) -> Option<u128>
+    requires { length (numbers_of row.now) ≡ suc (multipliers first.now.rows) }
+    ensures { IfSome result (λ b. IsWholeTop first.now.rows (numbers_of row.now) first.now.top b) }
 {
-    let combined = size_product(top, first.top)?;
-    Some(larger(combined, numbers[first.rows + COSTS].unsigned_abs()))
+    let combined = size_product(row.top, first.top)?;
+    Some(larger(combined, row.right.unsigned_abs()))
 }
 
 /// The number of a row in any column, the right side last. Likely gives up if a sum of products doesn't fit.
-pub fn row_number(first: &First, row: &[i128], j: usize) -> Option<i128>
-    requires width { length row.now ≡ suc (multipliers first.now.rows) }
+pub fn row_number(first: &First, row: &Row, j: usize) -> Option<i128>
+    requires width { length (numbers_of row.now) ≡ suc (multipliers first.now.rows) }
     requires column_in { j < suc (length first.now.columns.items + first.now.rows) }
-    ensures { IfSome result (λ r. r ≡ number_with first.now.rows first.now.columns.items row.now j) }
+    ensures { IfSome result (λ r. r ≡ number_with first.now.rows first.now.columns.items (numbers_of row.now) j) }
 {
     let plain = first.columns.len();
     if j < plain {
-        return sum_over(first.columns[j].cells.as_slice(), row);
+        return sum_over(first.columns[j].cells.as_slice(), &row.entries);
     }
     if j - plain < first.rows {
-        Some(row[j - plain])
+        Some(row.entries.at(j - plain))
     } else {
-        Some(row[first.rows + COSTS])
+        Some(row.right)
     }
 }
 
 /// A top of all numbers of a row, its multipliers too, by each of them. Likely gives up if one doesn't fit.
-pub fn top_in(first: &First, row: &[i128]) -> Option<u128>
-    requires { length row.now ≡ suc (multipliers first.now.rows) }
-    ensures made { IfSome result (λ b. AreWithin (number_with first.now.rows first.now.columns.items row.now) b) }
-    ensures kept { IfSome result (λ b. AreWithin (number_at row.now) b) }
+pub fn top_in(first: &First, row: &Row) -> Option<u128>
+    requires { length (numbers_of row.now) ≡ suc (multipliers first.now.rows) }
+    ensures made { IfSome result (λ b. AreWithin (number_with first.now.rows first.now.columns.items
+        (numbers_of row.now)) b) }
+    ensures kept { IfSome result (λ b. AreWithin (number_at (numbers_of row.now)) b) }
 {
-    let mut top = top_of(row);
+    let mut top = larger(row.top, row.right.unsigned_abs());
     for j in 0..first.columns.len() {
         top = larger(top, row_number(first, row, j)?.unsigned_abs());
     }

@@ -7,11 +7,12 @@ ghost use Rattle.stack_inverse.specs.Marks.{mark_at, HaveWords};
 
 use crate::first::{COSTS, First};
 use crate::making::number_of;
-use crate::marks::{Marks, fill_lists, uses_of};
+use crate::marks::{fill_lists, uses_of};
 use crate::row::TableRow;
 use crate::stops::NoTable;
 use crate::to_visit::ToVisit;
 use stack_bland::Found;
+use stack_rows::{Marks, Pivot};
 use std::alloc::Global;
 
 /// The marks of a table.
@@ -54,7 +55,9 @@ impl Marking {
     ghost use Rattle.stack_inverse.specs.Columns.{RowSeen, cells_at};
     ghost use Rattle.stack_inverse.specs.FirstTable.{AreFilled};
     ghost use Rattle.stack_inverse.specs.RowsSeen.{seen_at, number_in_row};
-    ghost use Rattle.stack_inverse.specs.Marks.{mark_in, least_negative};
+    ghost use Rattle.stack_rows.specs.Marks.{mark_in};
+    ghost use Rattle.stack_rows.specs.RowSeen.{numbers_of};
+    ghost use Rattle.stack_inverse.specs.Marks.{least_negative};
     ghost use Rattle.stack_inverse.specs.Marking.{AreMarks, IsMarkedOn};
 
     /// The marks of the first rows; all plain columns are open.
@@ -95,11 +98,11 @@ impl Marking {
         }
     }
 
-    /// Brings the marks up to date after a pivot: `row` is the pivot's row as it is now, and those rows are touched in
-    /// which its column had something. If the pivot wasn't done, all is marked.
-    pub fn mark_on(&mut self, done: bool, row: &[i128])
-        requires { length self.old.places.items ≤ length row.now }
-        ensures { IsMarkedOn done row.now self.old self.new }
+    /// Brings the marks up to date after a pivot: those rows are touched in which its column had something. If the
+    /// pivot wasn't done, all is marked.
+    pub fn mark_on(&mut self, done: bool, pivot: &Pivot)
+        requires { length (numbers_of pivot.now.row) ≡ suc (length self.old.places.items) }
+        ensures { IsMarkedOn done (numbers_of pivot.now.row) self.old self.new }
     {
         self.to_visit.all_fit = done;
         if !done {
@@ -107,11 +110,10 @@ impl Marking {
             self.open.fill();
             return;
         }
-        for r in 0..self.places.len() {
-            if row[r] != 0 {
-                self.places[r].join(&self.to_visit.touched);
-                self.open.join(&self.uses[r]);
-            }
+        for i in 0..pivot.listed {
+            let r = usize::from(pivot.list[i]);
+            self.places[r].join(&self.to_visit.touched);
+            self.open.join(&self.uses[r]);
         }
     }
 

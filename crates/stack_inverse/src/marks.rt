@@ -1,120 +1,16 @@
-//! Marks, a bit each: a place without a mark has nothing.
+//! Lists of marks: a place without a mark has nothing.
 
 ghost use Rattle.std.specs.Prelude.{◌≡◌, ◌≢◌, ℕ, suc, ◌<◌, ◌≤◌, ◌/◌, length, IfOk};
 ghost use Rattle.std.specs.List.{AllByRecursion};
 ghost use Rattle.stack_whole.specs.Limits.{most_rows};
 ghost use Rattle.stack_inverse.specs.Columns.{multipliers, cells_at};
-ghost use Rattle.stack_inverse.specs.Marks.{mark_in, list_at, mark_at, HaveWords, AreUses};
+ghost use Rattle.stack_inverse.specs.Marks.{list_at, mark_at, HaveWords, AreUses};
 
 use crate::columns::{Cell, FirstColumn};
 use crate::first::{COSTS, First};
 use crate::stops::NoTable;
+use stack_rows::Marks;
 use std::alloc::Global;
-
-/// Marks of places, a bit each.
-#[derive(Drop)]
-pub struct Marks {
-    words: Vec<u64>,
-}
-
-impl Marks {
-    ghost use Rattle.std.specs.Prelude.{pos, max};
-
-    /// No marks yet, with room for as many.
-    pub fn none(alloc: Global, width: usize) -> Result<Marks, NoTable>
-        ensures { IfOk result (λ m. length m.words.items ≡ suc (width / 64)) }
-    {
-        let words = Vec::from_elem(alloc, 0, width / 64 + 1)?;
-        Ok(Marks { words })
-    }
-
-    /// Marks a place.
-    pub fn put(&mut self, j: usize)
-        requires { j / 64 < length self.old.words.items }
-        ensures long { length self.new.words.items ≡ length self.old.words.items }
-        ensures here { mark_in self.new.words.items j ≡ 1 }
-        ensures others { (i : ℕ) → i ≢ j → mark_in self.new.words.items i ≡ mark_in self.old.words.items i }
-    {
-        self.words[j / 64] = self.words[j / 64] | (1u64 << (j % 64));
-    }
-
-    /// Clears the mark of a place.
-    pub fn remove(&mut self, j: usize)
-        requires { j / 64 < length self.old.words.items }
-        ensures long { length self.new.words.items ≡ length self.old.words.items }
-        ensures others { (i : ℕ) → i ≢ j → mark_in self.new.words.items i ≡ mark_in self.old.words.items i }
-    {
-        self.words[j / 64] = self.words[j / 64] & !(1u64 << (j % 64));
-    }
-
-    /// Clears all marks.
-    pub fn clear(&mut self)
-        ensures { length self.new.words.items ≡ length self.old.words.items }
-    {
-        for w in 0..self.words.len() {
-            self.words[w] = 0;
-        }
-    }
-
-    /// Marks all places.
-    pub fn fill(&mut self)
-        ensures long { length self.new.words.items ≡ length self.old.words.items }
-        ensures each { (j : ℕ) → j / 64 < length self.old.words.items → mark_in self.new.words.items j ≡ 1 }
-    {
-        for w in 0..self.words.len() {
-            self.words[w] = u64::MAX;
-        }
-    }
-
-    /// Adds all marks of `other`.
-    pub fn join(&mut self, other: &Marks)
-        requires { length other.now.words.items ≡ length self.old.words.items }
-        ensures long { length self.new.words.items ≡ length self.old.words.items }
-        ensures joined { (j : ℕ) → mark_in self.new.words.items j
-            ≡ max (mark_in self.old.words.items j) (mark_in other.now.words.items j) }
-    {
-        let others = other.words.as_slice();
-        for w in 0..self.words.len() {
-            self.words[w] = self.words[w] | others[w];
-        }
-    }
-
-    /// Marks a place exactly if a number isn't 0.
-    pub fn note(&mut self, j: usize, number: i128)
-        requires { j / 64 < length self.old.words.items }
-        ensures long { length self.new.words.items ≡ length self.old.words.items }
-        ensures here { mark_in self.new.words.items j ≡ 0 → number ≡ pos 0 }
-        ensures others { (i : ℕ) → i ≢ j → mark_in self.new.words.items i ≡ mark_in self.old.words.items i }
-    {
-        if number == 0 {
-            self.remove(j);
-        } else {
-            self.put(j);
-        }
-    }
-
-    /// The next place with a mark from one on; the end if there is none.
-    pub fn next(&self, from: usize, end: usize) -> usize
-        requires long { length self.now.words.items ≡ suc (end / 64) }
-        requires within { from ≤ end }
-        ensures later { from ≤ result }
-        ensures within { result ≤ end }
-        ensures none { (j : ℕ) → from ≤ j → j < result → mark_in self.now.words.items j ≡ 0 }
-    {
-        let words = self.words.as_slice();
-        let rest = words[from / 64] >> (from % 64);
-        if rest != 0 {
-            return from + (rest.trailing_zeros() as usize).min(end - from);
-        }
-        for w in from / 64 + 1..words.len() {
-            let word = words[w];
-            if word != 0 {
-                return w * 64 + (word.trailing_zeros() as usize).min(end - w * 64);
-            }
-        }
-        end
-    }
-}
 
 /// Marks a place in a list.
 fn mark_place(lists: &mut [Marks], r: usize, j: usize)

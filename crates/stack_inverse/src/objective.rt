@@ -2,6 +2,7 @@
 
 ghost use Rattle.std.specs.Prelude.{◌≡◌, ℕ, suc, ◌<◌, length, pos, ◌<ℤ◌, eqb, cond, IfSome};
 ghost use Rattle.stack_rows.specs.RowForm.{number_at};
+ghost use Rattle.stack_rows.specs.RowSeen.{numbers_of};
 ghost use Rattle.stack_inverse.specs.Columns.{multipliers, IsFactorRow, HaveWidths};
 ghost use Rattle.stack_inverse.specs.RowsSeen.{seen_at};
 
@@ -9,6 +10,7 @@ use crate::first::First;
 use crate::making::number_of;
 use crate::row::TableRow;
 use num_traits::CheckedAdd;
+use stack_rows::Row;
 
 pub fn clear_row(row: &mut [i128])
     ensures { (j : ℕ) → number_at row.new j ≡ pos 0 }
@@ -25,6 +27,16 @@ pub fn set_only(row: &mut [i128], column: usize, number: i128)
 {
     clear_row(row);
     row[column] = number;
+}
+
+/// Writes all numbers of a row, the right side last.
+fn copy_numbers(row: &Row, numbers: &mut [i128])
+    requires { length numbers.old ≡ length (numbers_of row.now) }
+    ensures { numbers.new ≡ (numbers_of row.now) }
+{
+    for j in 0..numbers.len() {
+        numbers[j] = row.number(j);
+    }
 }
 
 /// The numbers of a row whose cell in the column has to be 1, and once the costs of phase 3, with its denominator;
@@ -49,7 +61,7 @@ pub fn factor_row(
     match row {
         Some(r) => {
             let cell = number_of(first, &rows[r], column)?;
-            numbers.copy_from_slice(rows[r].row.numbers.as_slice());
+            copy_numbers(&rows[r].row, numbers);
             let under = rows[r].row.under;
             let at = first.rows + 1;
             let cost = numbers[at];

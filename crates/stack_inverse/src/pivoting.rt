@@ -11,8 +11,9 @@ ghost use Rattle.stack_inverse.specs.CellSteps.{TellsSpot, PivotIsRefused};
 ghost use Rattle.stack_inverse.specs.Columns.{multipliers, HaveWidths, IsPut, AreEntered};
 ghost use Rattle.stack_inverse.specs.RowsSeen.{seen_of, seen_at, number_in_row, cell_in_row, cells_of_rows, pivot_cell};
 ghost use Rattle.stack_inverse.specs.RowsSeen.{IsPivotRow, IsReducedBy, columns_of};
-ghost use Rattle.stack_inverse.specs.Marks.{mark_in};
+ghost use Rattle.stack_rows.specs.Marks.{mark_in};
 ghost use Rattle.stack_rows.specs.RowForm.{number_at};
+ghost use Rattle.stack_rows.specs.RowSeen.{numbers_of};
 
 use crate::bounding::{pivot_top, under_fits};
 use crate::first::First;
@@ -32,21 +33,21 @@ fn divide(
     r: usize,
     column: usize,
 ) -> Option<()>
-    requires width { length row.now.row.numbers.items ≡ suc (multipliers first.now.rows) }
-    requires room { length pivot.old.row.numbers.items ≡ suc (multipliers first.now.rows) }
+    requires width { length (numbers_of row.now.row) ≡ suc (multipliers first.now.rows) }
+    requires room { length (numbers_of pivot.old.divided.row) ≡ suc (multipliers first.now.rows) }
     requires row_in { r < first.now.rows }
     requires number { number ≡ number_in_row first.now (seen_of row.now) column }
     requires some { number ≢ pos 0 }
-    ensures room { length pivot.new.row.numbers.items ≡ length pivot.old.row.numbers.items }
+    ensures room { length (numbers_of pivot.new.divided.row) ≡ length (numbers_of pivot.old.divided.row) }
     ensures pivot { OnSome result (IsPivotRow first.now pivot.new) }
-    ensures zeros { OnSome result ((q : ℕ) → number_at row.now.row.numbers.items q ≡ pos 0 →
-        number_at pivot.new.row.numbers.items q ≡ pos 0) }
+    ensures zeros { OnSome result ((q : ℕ) → number_at (numbers_of row.now.row) q ≡ pos 0 →
+        number_at (numbers_of pivot.new.divided.row) q ≡ pos 0) }
     ensures ok { OnSome result (IsDividedRow widest (cell_in_row first.now (seen_of row.now)) column
         (pivot_cell first.now pivot.new)) }
 {
-    pivot.row.divide(&row.row, number)?;
-    pivot.whole_top = pivot_top(first, &pivot.row)?;
-    under_fits(&pivot.row);
+    pivot.divided.divide(&row.row, number)?;
+    pivot.whole_top = pivot_top(first, &pivot.divided.row)?;
+    under_fits(&pivot.divided.row);
     Some(())
 }
 
@@ -65,8 +66,8 @@ pub fn put_row(rows: &mut [TableRow], i: usize, numbers: &[i128], under: i128)
 /// Puts the pivot row, whose cells fit.
 fn put_pivot(rows: &mut [TableRow], i: usize, pivot: &Row)
     requires row_in { i < length rows.old }
-    requires width { length (seen_at rows.old i).numbers ≡ length pivot.now.numbers.items }
-    ensures { IsPut (seen_at rows.old) i pivot.now.numbers.items pivot.now.under true (seen_at rows.new) }
+    requires width { length (seen_at rows.old i).numbers ≡ length (numbers_of pivot.now) }
+    ensures { IsPut (seen_at rows.old) i (numbers_of pivot.now) pivot.now.under true (seen_at rows.new) }
 {
     let row = &mut rows[i];
     row.row.copy_from(pivot);
@@ -104,7 +105,7 @@ fn reduce_others(
     ensures refused { IfErr result (λ e. PivotIsRefused widest (suc first.now.rows) (columns_of first.now)
         (cells_of_rows first.now rows.old) (pivot_cell first.now pivot.now) row column e) }
 {
-    let divider = Divider::of(pivot.row.under);
+    let divider = Divider::of(pivot.divided.row.under);
     let mut i = to_visit.next_row(0, rows.len());
     while i < rows.len() {
         if i == row {
@@ -134,7 +135,7 @@ pub fn pivot_rows(
 ) -> Result<(), TurnRefusal>
     requires height { length rows.old ≡ suc first.now.rows }
     requires widths { HaveWidths first.now.rows (seen_at rows.old) }
-    requires room { length pivot.old.row.numbers.items ≡ suc (multipliers first.now.rows) }
+    requires room { length (numbers_of pivot.old.divided.row) ≡ suc (multipliers first.now.rows) }
     requires fitting { AreFitting widest (cells_of_rows first.now rows.old) (seen_at rows.old) }
     requires long { length entered.now ≡ suc (multipliers first.now.rows) }
     requires entered { AreEntered first.now.rows first.now.columns.items
@@ -147,7 +148,7 @@ pub fn pivot_rows(
     requires row_in { row < first.now.rows }
     requires some { number_in_row first.now (seen_at rows.old row) column ≢ pos 0 }
     ensures widths { HaveWidths first.now.rows (seen_at rows.new) }
-    ensures room { length pivot.new.row.numbers.items ≡ length pivot.old.row.numbers.items }
+    ensures room { length (numbers_of pivot.new.divided.row) ≡ length (numbers_of pivot.old.divided.row) }
     ensures fitting { AreFitting widest (cells_of_rows first.now rows.new) (seen_at rows.new) }
     ensures fit { OnOk result ((k : ℕ) → k ≤ first.now.rows → (seen_at rows.new k).fits ≡ true) }
     ensures ok { OnOk result (IsPivotedCells widest (suc first.now.rows) (columns_of first.now)
@@ -155,6 +156,7 @@ pub fn pivot_rows(
     ensures zeros { OnOk result ((k : ℕ) → k ≤ first.now.rows → (k ≢ row) → KeepsZeros (seen_at rows.old k).numbers
         (seen_at rows.new row).numbers (number_in_row first.now (seen_at rows.old k) column)
         (seen_at rows.new k).numbers) }
+    ensures own { OnOk result (numbers_of pivot.new.divided.row ≡ (seen_at rows.new row).numbers) }
     ensures own_zeros { OnOk result ((q : ℕ) → number_at (seen_at rows.old row).numbers q ≡ pos 0 →
         number_at (seen_at rows.new row).numbers q ≡ pos 0) }
     ensures refused { IfErr result (λ e. TellsSpot e (cells_spot ordered_fractions (is_too_wide widest)
@@ -166,7 +168,7 @@ pub fn pivot_rows(
     }
     match reduce_others(first, rows, pivot, entered, to_visit, row, column) {
         Ok(()) => {
-            put_pivot(rows, row, &pivot.row);
+            put_pivot(rows, row, &pivot.divided.row);
             Ok(())
         }
         Err(e) => Err(e),

@@ -8,6 +8,8 @@ ghost use Rattle.stack_rational.specs.Laws.{widest};
 ghost use Rattle.stack_rational.specs.TooWide.{is_too_wide};
 ghost use Rattle.stack_table.specs.Spots.{reduce_spot};
 ghost use Rattle.stack_rows.specs.RowForm.{IsTaken};
+ghost use Rattle.stack_rows.specs.EntriesSeen.{entries_of};
+ghost use Rattle.stack_rows.specs.RowSeen.{numbers_of};
 ghost use Rattle.stack_inverse.specs.RowBlock.{AllNumbersFit};
 ghost use Rattle.stack_inverse.specs.Columns.{multipliers};
 ghost use Rattle.stack_inverse.specs.CellSteps.{TellsSpot};
@@ -19,16 +21,15 @@ use crate::first::First;
 use crate::row::{PivotRow, TableRow};
 use crate::spots::{RowStep, cell, numbers_fit, reduced_cell, row_spot};
 use stack_bland::Found;
-use stack_rows::{Divider, Row, factors_of, remake_row};
+use stack_rows::{Divider, Entries, Pivot, Row, factors_of, remake_row};
 use stack_table::TurnRefusal;
 
-/// Whether the first numbers of a step fit, one by one: a hint.
-fn first_fit(row: &[i128], pivot: &[i128], s: &RowStep, count: usize) -> bool
-    requires width { length pivot.now ≡ length row.now }
-    requires count { count ≤ length row.now }
+/// Whether all numbers of a step but the right side fit, one by one: a hint.
+fn entries_fit(entries: &Entries, pivot: &Entries, s: &RowStep) -> bool
+    requires { length (entries_of pivot.now) ≡ length (entries_of entries.now) }
 {
-    for j in 0..count {
-        if !numbers_fit(s, row[j], pivot[j]) {
+    for j in 0..entries.count() {
+        if !numbers_fit(s, entries.at(j), pivot.at(j)) {
             return false;
         }
     }
@@ -37,39 +38,28 @@ fn first_fit(row: &[i128], pivot: &[i128], s: &RowStep, count: usize) -> bool
 
 /// Subtracts a multiple of the pivot row from a row: number by number, but the right side becomes the reduced cell.
 /// Gives up if a number doesn't fit.
-fn take_by_cell(row: &mut Row, pivot: &Row, s: &RowStep) -> Option<()>
-    requires width { length pivot.now.numbers.items ≡ length row.old.numbers.items }
+fn take_by_cell(row: &mut Row, pivot: &Pivot, s: &RowStep) -> Option<()>
+    requires width { length (numbers_of pivot.now.row) ≡ length (numbers_of row.old) }
     requires under { s.now.under ≡ row.old.under }
-    ensures width { length row.new.numbers.items ≡ length row.old.numbers.items }
-    ensures ok { OnSome result (IsTaken row.old.numbers.items (row.old.under *ℤ s.now.factors.times)
-        pivot.now.numbers.items s.now.factors.times s.now.factors.less row.new.numbers.items row.new.under) }
+    ensures width { length (numbers_of row.new) ≡ length (numbers_of row.old) }
+    ensures ok { OnSome result (IsTaken (numbers_of row.old) (row.old.under *ℤ s.now.factors.times)
+        (numbers_of pivot.now.row) s.now.factors.times s.now.factors.less (numbers_of row.new) row.new.under) }
 {
-    let numbers = row.numbers.as_slice();
-    let other = pivot.numbers.as_slice();
-    let count = numbers.len().checked_sub(1)?;
-    match reduced_cell(s, numbers[count], other[count])? {
+    match reduced_cell(s, row.right, pivot.row.right)? {
         Ok(right) => row.take_apart(pivot, s.factors, right),
         Err(_) => None,
     }
 }
 
-/// Whether the right side of a step fits: a hint.
-fn right_fits(row: &[i128], pivot: &[i128], s: &RowStep) -> bool {
-    match (row.last(), pivot.last()) {
-        (Some(own), Some(other)) => numbers_fit(s, *own, *other),
-        _ => false,
-    }
-}
-
 /// The same, but the right side is also made from its number if that fits.
-fn take_numbers(row: &mut Row, pivot: &Row, s: &RowStep) -> Option<()>
-    requires width { length pivot.now.numbers.items ≡ length row.old.numbers.items }
+fn take_numbers(row: &mut Row, pivot: &Pivot, s: &RowStep) -> Option<()>
+    requires width { length (numbers_of pivot.now.row) ≡ length (numbers_of row.old) }
     requires under { s.now.under ≡ row.old.under }
-    ensures width { length row.new.numbers.items ≡ length row.old.numbers.items }
-    ensures ok { OnSome result (IsTaken row.old.numbers.items (row.old.under *ℤ s.now.factors.times)
-        pivot.now.numbers.items s.now.factors.times s.now.factors.less row.new.numbers.items row.new.under) }
+    ensures width { length (numbers_of row.new) ≡ length (numbers_of row.old) }
+    ensures ok { OnSome result (IsTaken (numbers_of row.old) (row.old.under *ℤ s.now.factors.times)
+        (numbers_of pivot.now.row) s.now.factors.times s.now.factors.less (numbers_of row.new) row.new.under) }
 {
-    if right_fits(row.numbers.as_slice(), pivot.numbers.as_slice(), s) {
+    if numbers_fit(s, row.right, pivot.row.right) {
         row.take(pivot, s.factors)
     } else {
         take_by_cell(row, pivot, s)
@@ -78,20 +68,18 @@ fn take_numbers(row: &mut Row, pivot: &Row, s: &RowStep) -> Option<()>
 
 /// Subtracts a multiple of the pivot row from a row: number by number if all but the right side fit, one by one, and
 /// otherwise from the reduced cells. Likely gives up if these have no common denominator with which all numbers fit.
-fn take_or_remake(row: &mut Row, pivot: &Row, s: &RowStep) -> Option<()>
-    requires width { length pivot.now.numbers.items ≡ length row.old.numbers.items }
+fn take_or_remake(row: &mut Row, pivot: &Pivot, s: &RowStep) -> Option<()>
+    requires width { length (numbers_of pivot.now.row) ≡ length (numbers_of row.old) }
     requires under { s.now.under ≡ row.old.under }
-    ensures width { length row.new.numbers.items ≡ length row.old.numbers.items }
-    ensures ok { OnSome result (IsTaken row.old.numbers.items (s.now.under *ℤ s.now.pivot_under)
-        pivot.now.numbers.items s.now.pivot_under s.now.number row.new.numbers.items row.new.under) }
+    ensures width { length (numbers_of row.new) ≡ length (numbers_of row.old) }
+    ensures ok { OnSome result (IsTaken (numbers_of row.old) (s.now.under *ℤ s.now.pivot_under)
+        (numbers_of pivot.now.row) s.now.pivot_under s.now.number (numbers_of row.new) row.new.under) }
 {
-    let numbers = row.numbers.as_slice();
-    let other = pivot.numbers.as_slice();
-    if first_fit(numbers, other, s, numbers.len().saturating_sub(1)) {
+    if entries_fit(&row.entries, &pivot.row.entries, s) {
         take_numbers(row, pivot, s)?;
         Some(())
     } else {
-        remake_row(row, other, s)
+        remake_row(row, pivot, s)
     }
 }
 
@@ -104,14 +92,14 @@ fn step_by_cells(
     s: &RowStep,
     i: usize,
 ) -> Result<(), TurnRefusal>
-    requires width { length row.old.row.numbers.items ≡ suc (multipliers first.now.rows) }
+    requires width { length (numbers_of row.old.row) ≡ suc (multipliers first.now.rows) }
     requires pivot { IsPivotRow first.now pivot.now }
     requires under { s.now.under ≡ row.old.row.under }
-    requires pivot_under { s.now.pivot_under ≡ pivot.now.row.under }
-    ensures width { length row.new.row.numbers.items ≡ length row.old.row.numbers.items }
+    requires pivot_under { s.now.pivot_under ≡ pivot.now.divided.row.under }
+    ensures width { length (numbers_of row.new.row) ≡ length (numbers_of row.old.row) }
     ensures fits { row.new.fits ≡ row.old.fits }
-    ensures ok { OnOk result (IsTaken row.old.row.numbers.items (s.now.under *ℤ s.now.pivot_under)
-        pivot.now.row.numbers.items s.now.pivot_under s.now.number row.new.row.numbers.items row.new.row.under) }
+    ensures ok { OnOk result (IsTaken (numbers_of row.old.row) (s.now.under *ℤ s.now.pivot_under)
+        (numbers_of pivot.now.divided.row) s.now.pivot_under s.now.number (numbers_of row.new.row) row.new.row.under) }
     ensures none { OnOk result (reduce_spot ordered_fractions (is_too_wide widest) (columns_of first.now)
         (cell_in_row first.now (seen_of row.old)) (pivot_cell first.now pivot.now)
         (over s.now.number s.now.under) i ≡ None) }
@@ -119,18 +107,12 @@ fn step_by_cells(
         (columns_of first.now) (cell_in_row first.now (seen_of row.old)) (pivot_cell first.now pivot.now)
         (over s.now.number s.now.under) i)) }
 {
-    match row_spot(
-        first,
-        row.row.numbers.as_slice(),
-        pivot.row.numbers.as_slice(),
-        s,
-        i,
-    ) {
+    match row_spot(first, &row.row, &pivot.divided.row, s, i) {
         Found::Nothing => {}
         Found::This(spot) => return Err(TurnRefusal::TooWide(spot)),
         Found::GaveUp => return Err(TurnRefusal::Unsettled),
     }
-    match take_or_remake(&mut row.row, &pivot.row, s) {
+    match take_or_remake(&mut row.row, &pivot.divided, s) {
         Some(()) => Ok(()),
         None => Err(TurnRefusal::Unsettled),
     }
@@ -145,10 +127,10 @@ fn step(
     number: i128,
     i: usize,
 ) -> Result<(), TurnRefusal>
-    requires width { length row.old.row.numbers.items ≡ suc (multipliers first.now.rows) }
+    requires width { length (numbers_of row.old.row) ≡ suc (multipliers first.now.rows) }
     requires pivot { IsPivotRow first.now pivot.now }
-    requires divider { divider.by ≡ pivot.now.row.under }
-    ensures width { length row.new.row.numbers.items ≡ length row.old.row.numbers.items }
+    requires divider { divider.by ≡ pivot.now.divided.row.under }
+    ensures width { length (numbers_of row.new.row) ≡ length (numbers_of row.old.row) }
     ensures fits { row.new.fits ≡ row.old.fits }
     ensures ok { OnOk result ((column : ℕ) → number ≡ number_in_row first.now (seen_of row.old) column →
         IsReducedBy widest first.now (seen_of row.old) pivot.now i column (seen_of row.new)) }
@@ -162,14 +144,14 @@ fn step(
         None => return Err(TurnRefusal::Unsettled),
     };
     match small_step(first, &row.row, pivot, factors) {
-        Some(step) => return match row.row.take_small(&pivot.row, &step) {
+        Some(step) => return match row.row.take_small(&pivot.divided, &step) {
             Some(()) => Ok(()),
             None => Err(TurnRefusal::Unsettled),
         },
         None => {}
     }
     if fits_for(first, &mut row.row, pivot, factors) {
-        return match row.row.take(&pivot.row, factors) {
+        return match row.row.take(&pivot.divided, factors) {
             Some(()) => Ok(()),
             None => Err(TurnRefusal::Unsettled),
         };
@@ -180,7 +162,7 @@ fn step(
     };
     let s = RowStep {
         under: row.row.under,
-        pivot_under: pivot.row.under,
+        pivot_under: pivot.divided.row.under,
         number,
         cell,
         factors,
@@ -213,10 +195,10 @@ pub fn reduce(
     number: i128,
     i: usize,
 ) -> Result<(), TurnRefusal>
-    requires width { length row.old.row.numbers.items ≡ suc (multipliers first.now.rows) }
+    requires width { length (numbers_of row.old.row) ≡ suc (multipliers first.now.rows) }
     requires pivot { IsPivotRow first.now pivot.now }
-    requires divider { divider.by ≡ pivot.now.row.under }
-    ensures width { length row.new.row.numbers.items ≡ length row.old.row.numbers.items }
+    requires divider { divider.by ≡ pivot.now.divided.row.under }
+    ensures width { length (numbers_of row.new.row) ≡ length (numbers_of row.old.row) }
     ensures unfit { IfErr result (λ e. row.new.fits ≡ false) }
     ensures fitting { OnOk result (row.new.fits ≡ true) }
     ensures ok { OnOk result ((column : ℕ) → number ≡ number_in_row first.now (seen_of row.old) column →

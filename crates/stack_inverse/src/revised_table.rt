@@ -7,6 +7,7 @@ ghost use Rattle.stack_table.specs.Table.{plain, columns};
 ghost use Rattle.stack_table.specs.Block.{shape_of};
 ghost use Rattle.stack_inverse.specs.RowBlock.{AreFitting};
 ghost use Rattle.stack_inverse.specs.Columns.{multipliers, HaveWidths, AreFactorCosts};
+ghost use Rattle.stack_rows.specs.RowSeen.{numbers_of};
 ghost use Rattle.stack_bland.specs.Found.{TellsFound, IfFound};
 ghost use Rattle.stack_inverse.specs.Marks.{least_negative};
 ghost use Rattle.stack_inverse.specs.Marking.{AreMarks};
@@ -24,7 +25,7 @@ use crate::pivoting::{pivot_rows, put_row};
 use crate::row::{PivotRow, TableRow};
 use crate::stops::NoTable;
 use stack_bland::Found;
-use stack_rows::Row;
+use stack_rows::Pivot;
 use stack_table::{Problem, TurnRefusal, row_with};
 use std::alloc::Global;
 
@@ -58,7 +59,7 @@ pub struct RevisedTable {
     ghost height: { length rows.items ≡ suc first.rows },
     ghost widths: { HaveWidths first.rows (seen_at rows.items) },
     ghost fitting: { AreFitting widest (cells_of_rows first rows.items) (seen_at rows.items) },
-    ghost room: { length pivot.row.numbers.items ≡ suc (multipliers first.rows) },
+    ghost room: { length (numbers_of pivot.divided.row) ≡ suc (multipliers first.rows) },
     ghost one_number: { length entered.items ≡ suc (multipliers first.rows) },
     ghost marks: { AreMarks first (seen_at rows.items) marking } by { Prim.hlevel props },
     ghost found: { TellsFound least (least_negative (number_in_row first (seen_at rows.items first.rows))
@@ -92,7 +93,7 @@ impl RevisedTable {
         let width = width_of(p.rows);
         let mut rows = rows_of(alloc, p.rows + 1, width)?;
         let pivot = PivotRow {
-            row: Row::zeros(alloc, width)?,
+            divided: Pivot::zeros(alloc, width)?,
             whole_top: 0,
         };
         let mut entered = zeros(alloc, p.rows + COSTS + 1)?;
@@ -207,7 +208,7 @@ impl RevisedTable {
         requires { i ≤ (shape_of_revised self.now).rows }
         ensures { result ≡ number_in self.now i (columns (shape_of_revised self.now)) }
     {
-        self.rows[i].row.numbers[self.first.rows + COSTS]
+        self.rows[i].row.right
     }
 
     /// The number of the objective row in a row's artificial column, over the denominator of the objective row.
@@ -216,7 +217,7 @@ impl RevisedTable {
         ensures { result ≡ number_in self.now (shape_of_revised self.now).rows
             (plain (shape_of_revised self.now) + i) }
     {
-        self.rows[self.first.rows].row.numbers[i]
+        self.rows[self.first.rows].row.entries.at(i)
     }
 
     /// The denominator of a row.
@@ -254,8 +255,7 @@ impl RevisedTable {
             row,
             column,
         );
-        self.marking
-            .mark_on(done.is_ok(), self.rows[row].row.numbers.as_slice());
+        self.marking.mark_on(done.is_ok(), &self.pivot.divided);
         self.least = self
             .marking
             .least_negative(&self.first, self.rows.as_slice());

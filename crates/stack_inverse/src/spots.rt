@@ -7,6 +7,7 @@ ghost use Rattle.stack_rational.specs.Laws.{widest};
 ghost use Rattle.stack_rational.specs.TooWide.{is_too_wide};
 ghost use Rattle.stack_table.specs.Spots.{reduce_spot};
 ghost use Rattle.stack_bland.specs.Found.{TellsFound};
+ghost use Rattle.stack_rows.specs.RowSeen.{numbers_of};
 ghost use Rattle.stack_inverse.specs.Columns.{multipliers, cell_with};
 ghost use Rattle.stack_inverse.specs.RowsSeen.{columns_of};
 ghost use Rattle.stack_inverse.specs.CellSteps.{TellsCell, TellsStep};
@@ -15,7 +16,7 @@ use crate::first::First;
 use crate::making::row_number;
 use stack_bland::Found;
 use stack_rational::{Exact, Frac, over};
-use stack_rows::{Cells, Factors, step_fits};
+use stack_rows::{Cells, Factors, Row, step_fits};
 use stack_table::{PivotWide, Step};
 
 /// What a row step is made of: the denominators of the row and of the pivot row, the row's number in the pivot's
@@ -119,18 +120,12 @@ fn step_spot(s: &RowStep, own: i128, pivot: i128) -> Option<Option<Step>>
 }
 
 /// The first step of row i that is too wide, if there is one. Likely gives up if a number of either row doesn't fit.
-pub fn row_spot(
-    first: &First,
-    row: &[i128],
-    pivot: &[i128],
-    s: &RowStep,
-    i: usize,
-) -> Found<PivotWide>
-    requires width { length row.now ≡ suc (multipliers first.now.rows) }
-    requires pivot_width { length pivot.now ≡ suc (multipliers first.now.rows) }
+pub fn row_spot(first: &First, row: &Row, pivot: &Row, s: &RowStep, i: usize) -> Found<PivotWide>
+    requires width { length (numbers_of row.now) ≡ suc (multipliers first.now.rows) }
+    requires pivot_width { length (numbers_of pivot.now) ≡ suc (multipliers first.now.rows) }
     ensures { TellsFound result (reduce_spot ordered_fractions (is_too_wide widest) (columns_of first.now)
-        (cell_with first.now.rows first.now.columns.items row.now s.now.under)
-        (cell_with first.now.rows first.now.columns.items pivot.now s.now.pivot_under)
+        (cell_with first.now.rows first.now.columns.items (numbers_of row.now) s.now.under)
+        (cell_with first.now.rows first.now.columns.items (numbers_of pivot.now) s.now.pivot_under)
         (over s.now.number s.now.under) i) }
 {
     let columns = match first.columns.len().checked_add(first.rows + 1) {

@@ -1,9 +1,9 @@
 //! The rows that a pivot visits.
 
 ghost use Rattle.std.specs.Prelude.{◌≡◌, ℕ, suc, ◌<◌, ◌≤◌, ◌/◌, length, true};
-ghost use Rattle.stack_inverse.specs.Marks.{mark_in};
+ghost use Rattle.stack_rows.specs.Marks.{mark_in};
 
-use crate::marks::Marks;
+use stack_rows::Marks;
 
 /// Which rows a pivot visits: if all rows are known to fit those with a mark, and if not all.
 #[derive(Drop)]

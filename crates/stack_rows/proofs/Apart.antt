@@ -1,12 +1,10 @@
 -- A row step in which what the right side becomes is given as a cell.
-use Rattle.std.proofs.Common.{◌≡◌, sym, ap, subst, ◌∙◌, ℕ, suc, List, length, arith, ℤ, pos, ◌*ℤ◌, ◌-ℤ◌, Option}
+use Rattle.std.proofs.Common.{◌≡◌, sym, ap, ◌∙◌, arith, ℤ, pos, ◌*ℤ◌, ◌-ℤ◌, Option}
 use Rattle.std.proofs.Common.{Some, None, IfSome}
-use Rattle.stack_rational.proofs.Common.{ℕ_discrete, dec_lt, expand, sums}
-use Rattle.stack_rows.specs.RowForm.{number_at, IsDividedPart, IsTaken, IsPutOver}
-use Rattle.stack_rows.proofs.Numbers.{at-past}
+use Rattle.stack_rational.proofs.Common.{expand, sums}
 
 -- a number that is divided and brought over another denominator
-raised_number : (x z by d m q w a : ℤ) → z *ℤ by ≡ q → d *ℤ by ≡ w → a ≡ d *ℤ m → x ≡ z *ℤ m → x *ℤ w ≡ q *ℤ a
+pub raised_number : (x z by d m q w a : ℤ) → z *ℤ by ≡ q → d *ℤ by ≡ w → a ≡ d *ℤ m → x ≡ z *ℤ m → x *ℤ w ≡ q *ℤ a
 raised_number x z by d m q w a hz hw ha hx = (λ i. hx i *ℤ sym hw i) ∙ turn z m d by ∙ (λ i. hz i *ℤ sym ha i)
   where
     turn : (z m d by : ℤ) → z *ℤ m *ℤ (d *ℤ by) ≡ z *ℤ by *ℤ (d *ℤ m)
@@ -29,27 +27,6 @@ nothing x o p w k t a hx ho hp = ap (λ z. z *ℤ w) hx ∙ none w k t a ∙ (λ
   where
     none : (w k t a : ℤ) → pos 0 *ℤ w ≡ (pos 0 *ℤ k -ℤ t *ℤ pos 0) *ℤ a
     none w k t a = simp expand (omega (arith, sums))
-
-pub taken_apart : (old pivot now new : List ℤ) (k t by d n e w after : ℤ) (count : ℕ) → length old ≡ suc count →
-    length pivot ≡ length old → length new ≡ length old → IsDividedPart old pivot k t by 0 count now →
-    d *ℤ by ≡ w → n *ℤ w ≡ (number_at old count *ℤ k -ℤ t *ℤ number_at pivot count) *ℤ e →
-    IsPutOver now d n e count new after → IsTaken old w pivot k t new after
-taken_apart old pivot now new k t by d n e w after count long pivot_long new_long written hw right put = record {
-  positive = put.positive;
-  number = λ r. elim (dec_lt r count) [
-    | yes l ↦ raised_number (number_at new r) (number_at now r) by d put.more
-        (number_at old r *ℤ k -ℤ t *ℤ number_at pivot r) w after (written.part r (omega arith) l) hw put.under
-        (put.before r l)
-    | no l ↦ elim (ℕ_discrete r count) [
-      | yes h ↦ subst (λ j. number_at new j *ℤ w ≡ (number_at old j *ℤ k -ℤ t *ℤ number_at pivot j) *ℤ after) (sym h)
-          (put_number (number_at new count) put.part n e (number_at old count *ℤ k -ℤ t *ℤ number_at pivot count) w
-          after right put.whole put.right)
-      | no h ↦ nothing (number_at new r) (number_at old r) (number_at pivot r) w k t after
-          (at-past new r (omega (arith, l, h, long, new_long))) (at-past old r (omega (arith, l, h, long)))
-          (at-past pivot r (omega (arith, l, h, long, pivot_long)))
-    ]
-  ];
-}
 
 -- what follows of what holds of an answer
 pub if_some : {A : Type 0} (o : Option A) {P Q : A → Type 0} → ((x : A) → P x → Q x) → IfSome o P → IfSome o Q

@@ -1,10 +1,10 @@
 -- One number of a row that is combined with the pivot row.
 use Rattle.std.proofs.Common.{◌≡◌, ◌≢◌, refl, sym, ap, ◌∙◌, zero, suc, arith, ℤ, pos, negsuc, neg_ℤ, nat_abs, ◌*ℤ◌}
-use Rattle.std.proofs.Common.{◌-ℤ◌, ◌<ℤ◌}
+use Rattle.std.proofs.Common.{◌-ℤ◌}
 use Rattle.std.specs.Int.{int_signum}
 use Prim.Native.Nat.{min}
 use lib.IntN.{*ℤ_comm}
-use Rattle.stack_rational.proofs.Common.{cancel, expand, sums}
+use Rattle.stack_rational.proofs.Common.{expand, sums}
 use Rattle.stack_rows.specs.RowForm.{IsQuotient}
 
 -- nothing is made of nothing
@@ -22,15 +22,6 @@ over_one n = simp expand (omega (arith, sums))
 -- a step that isn't divided
 pub undivided : (k t old pivot new : ℤ) → new ≡ old *ℤ k -ℤ pivot *ℤ t → IsQuotient (pos 1) k t old pivot new
 undivided k t old pivot new e = over_one new ∙ e ∙ (λ i. old *ℤ k -ℤ *ℤ_comm pivot t i)
-
--- and nothing else
-pub nothing_made : (by k t : ℤ) {old pivot : ℤ} (new : ℤ) → pos 0 <ℤ by → IsQuotient by k t old pivot new →
-    old ≡ pos 0 → pivot ≡ pos 0 → new ≡ pos 0
-nothing_made by k t new h e eo ep = cancel by new (pos 0) h
-    (turn by new ∙ e ∙ sym (made_nothing by k t eo ep (λ i. pos 0)) ∙ turn (pos 0) by)
-  where
-    turn : (a b : ℤ) → a *ℤ b ≡ b *ℤ a
-    turn a b = simp expand (omega (arith, sums))
 
 -- over the same number: n times g is o, and r times g is d
 pub same_cross : (n o g r d : ℤ) → n *ℤ g ≡ o → r *ℤ g ≡ d → n *ℤ d ≡ o *ℤ r

@@ -4,8 +4,13 @@ pub mod Numbers
 pub mod Items
 pub mod Casts
 pub mod Written
-pub mod Skips
+pub mod Bits
 pub mod Combined
+pub mod Stepped
+pub mod InWord
+pub mod Listed
 pub mod Divided
 pub mod Taken
 pub mod Apart
+pub mod Sided
+pub mod Kept

@@ -1,15 +1,9 @@
 -- The numbers of a list that is written number by number.
-use Rattle.std.proofs.Common.{◌≡◌, ◌≢◌, sym, subst, ◌∙◌, ℕ, zero, suc, ◌<◌, ◌≤◌, List, [], ◌∷◌, length, get_or, set}
+use Rattle.std.proofs.Common.{◌≡◌, ◌≢◌, sym, subst, ℕ, suc, ◌<◌, ◌≤◌, List, length, set}
 use Rattle.std.proofs.Common.{arith, replicate, get_or-set_same, get_or-set_other, ℤ, pos}
 use Rattle.std.proofs.lemmas.List.{get_or-replicate, length-replicate}
 use Rattle.stack_rational.proofs.Common.{get_or_past, ℕ_discrete, dec_lt}
 use Rattle.stack_rows.specs.RowForm.{number_at}
-
--- an item of a list is the same with any default
-pub item_same : {V : Type 0} (xs : List V) (j : ℕ) (y z : V) → j < length xs → get_or xs j y ≡ get_or xs j z
-item_same [] j y z l = absurd (omega (arith, l))
-item_same (x ∷ xs) zero y z l = λ i. x
-item_same (x ∷ xs) (suc j) y z l = item_same xs j y z (omega (arith, l))
 
 -- past the end
 pub at-past : (xs : List ℤ) (j : ℕ) → length xs ≤ j → number_at xs j ≡ pos 0
@@ -21,10 +15,6 @@ of_zeros n j = elim (dec_lt j n) [
   | yes l ↦ get_or-replicate n j (pos 0) (pos 0) l
   | no d ↦ at-past (replicate n (pos 0)) j (omega (arith, d, length-replicate {A = ℤ} n (pos 0)))
 ]
-
--- a number that is read
-pub at-index : (xs : List ℤ) (j : ℕ) (x : ℤ) → j < length xs → x ≡ get_or xs j x → number_at xs j ≡ x
-at-index xs j x l h = item_same xs j (pos 0) x l ∙ sym h
 
 -- a number that is written
 pub at-set_same : (xs : List ℤ) (j : ℕ) (x : ℤ) → j < length xs → number_at (set xs j x) j ≡ x

@@ -1,8 +1,8 @@
 -- A row that is written number by number: the part that is written grows.
-use Rattle.std.proofs.Common.{◌≡◌, sym, subst, ◌∙◌, ℕ, suc, ◌+◌, ◌<◌, ◌≤◌, List, length, length-set, set, arith, ℤ}
+use Rattle.std.proofs.Common.{◌≡◌, sym, subst, ◌∙◌, ℕ, ◌+◌, ◌<◌, ◌≤◌, List, length, set, arith, ℤ}
 use Rattle.std.proofs.Common.{nat_abs}
 use Rattle.stack_rational.proofs.Common.{ℕ_discrete, dec_lt}
-use Rattle.stack_rows.specs.RowForm.{number_at, IsWrittenPart, IsTopped, IsPartTopped}
+use Rattle.stack_rows.specs.RowForm.{number_at, IsWrittenPart, IsPartTopped}
 use Rattle.stack_rows.proofs.Numbers.{at-set_same, at-set_other}
 
 module _ {P : ℕ → ℤ → Type 0} {old : ℕ → ℤ} {from j : ℕ} where
@@ -47,10 +47,3 @@ topped_to xs {j = j} w more = λ i a b. elim (dec_lt i j) [
   | yes e ↦ w i a e
   | no d ↦ more i (omega (arith, d)) b
 ]
-
--- a number that is written at the end leaves the top of those before it
-pub topped_before : (xs : List ℤ) (k : ℕ) (x : ℤ) {size : ℕ} → length xs ≡ suc k → IsPartTopped 0 k xs size →
-    IsTopped (set xs k x) size
-topped_before xs k x {size = size} e w = λ j l.
-    let low : j < k = omega (arith, l, e, length-set xs k x) in
-    subst (λ z. nat_abs z ≤ size) (sym (at-set_other xs k j x (λ d. omega (arith, d, low)))) (w j (omega arith) low)

@@ -1,1 +1,4 @@
+pub mod Marks
 pub mod RowForm
+pub mod EntriesSeen
+pub mod RowSeen

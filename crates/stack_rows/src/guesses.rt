@@ -1,7 +1,9 @@
 //! By what a row is likely divided after a step. These are hints: what is divided by one is tested.
 
 ghost use Rattle.std.specs.Prelude.{◌≡◌, length};
+ghost use Rattle.stack_rows.specs.EntriesSeen.{entries_of};
 
+use crate::entries::Entries;
 use crate::factors::Factors;
 use crate::row::Row;
 use crate::sums::{CheckSums, common_with};
@@ -24,32 +26,28 @@ fn may_wrap(own: u128, other: u128, factors: Factors) -> bool {
 }
 
 /// The right side after a step, modulo 2^128: a hint.
-fn right_hint(numbers: &[i128], other: &[i128], factors: Factors) -> i128 {
-    let right = match (numbers.last(), other.last()) {
-        (Some(own), Some(right)) => (*own, *right),
-        _ => (0, 0),
-    };
-    let left = right.0.wrapping_mul(factors.times);
-    left.wrapping_sub(factors.less.wrapping_mul(right.1))
+fn right_hint(own: i128, other: i128, factors: Factors) -> i128 {
+    let left = own.wrapping_mul(factors.times);
+    left.wrapping_sub(factors.less.wrapping_mul(other))
 }
 
 /// A number that should go into all numbers of a row after a step, and into a number, as a hint.
 pub fn guess_of(row: &Row, other: &Row, factors: Factors, into: i128) -> i128 {
-    let right = right_hint(row.numbers.as_slice(), other.numbers.as_slice(), factors);
+    let right = right_hint(row.right, other.right, factors);
     row.sums
         .stepped(other.sums, factors.times, factors.less)
         .common_with(common_with(right, into))
 }
 
 /// The same by the first numbers of the row that aren't 0 then, where the check sums may not have fitted.
-pub fn guess_by_numbers(numbers: &[i128], other: &[i128], factors: Factors, into: i128) -> i128
-    requires { length other.now ≡ length numbers.now }
+pub fn guess_by_numbers(entries: &Entries, other: &[i128], factors: Factors, into: i128) -> i128
+    requires { length other.now ≡ length (entries_of entries.now) }
 {
     let mut guess = into;
     let mut seen: u8 = 0;
-    for j in 1..numbers.len() {
-        let left = numbers[j - 1].wrapping_mul(factors.times);
-        let made = left.wrapping_sub(factors.less.wrapping_mul(other[j - 1]));
+    for j in 0..entries.count() {
+        let left = entries.at(j).wrapping_mul(factors.times);
+        let made = left.wrapping_sub(factors.less.wrapping_mul(other[j]));
         if made != 0 {
             guess = common_with(made, guess);
             seen = seen.saturating_add(1);
@@ -61,19 +59,14 @@ pub fn guess_by_numbers(numbers: &[i128], other: &[i128], factors: Factors, into
     guess
 }
 
-/// The check sums of a row that is stepped and divided: anew where they may not have fitted on the way.
-pub fn sums_after(
-    numbers: &[i128],
-    sums: CheckSums,
-    other: &Row,
-    factors: Factors,
-    by: i128,
-    top: u128,
-) -> CheckSums {
+/// The check sums of a row that is stepped and divided, whose numbers are made: anew where they may not have fitted on
+/// the way. `top`: a top of the numbers that the row had.
+pub fn sums_after(row: &Row, other: &Row, factors: Factors, by: i128, top: u128) -> CheckSums {
     if may_wrap(top, other.top, factors) {
-        CheckSums::of_numbers(numbers)
+        CheckSums::of_entries(&row.entries)
     } else {
-        sums.stepped(other.sums, factors.times, factors.less)
+        row.sums
+            .stepped(other.sums, factors.times, factors.less)
             .divided(by)
     }
 }

@@ -1,12 +1,12 @@
 //! A row that is made anew from the cells that a step makes of it, over a common denominator.
 
-ghost use Rattle.std.specs.Prelude.{◌≡◌, ℕ, ◌*ℤ◌, ◌-ℤ◌, length, IfSome, OnSome};
-ghost use Rattle.stack_rows.specs.RowForm.{number_at, IsTaken};
+ghost use Rattle.std.specs.Prelude.{◌≡◌, ◌*ℤ◌, ◌-ℤ◌, length, IfSome, OnSome};
+ghost use Rattle.stack_rows.specs.RowForm.{IsTaken, IsRemade};
+ghost use Rattle.stack_rows.specs.RowSeen.{numbers_of};
 
 use crate::divider::Divider;
-use crate::jumps::find_jumps;
+use crate::pivot::Pivot;
 use crate::row::Row;
-use crate::stepping::top_of;
 use crate::sums::CheckSums;
 use num_traits::CheckedMul;
 use stack_rational::{Exact, Frac, divisor_of};
@@ -37,15 +37,17 @@ fn multiple(a: i128, b: i128) -> Option<i128> {
 }
 
 /// A common denominator of the cells, likely the least. Gives up where it doesn't fit.
-fn common_under<C: Cells>(numbers: &[i128], pivot: &[i128], cells: &C) -> Option<i128>
-    requires { length pivot.now ≡ length numbers.now }
+fn common_under<C: Cells>(row: &Row, pivot: &Pivot, cells: &C) -> Option<i128>
+    requires { length (numbers_of pivot.now.row) ≡ length (numbers_of row.now) }
 {
     let mut common = 1;
-    for j in 0..numbers.len() {
-        if numbers[j] == 0 && pivot[j] == 0 {
+    for j in 0..row.width() {
+        let own = row.number(j);
+        let other = pivot.row.number(j);
+        if own == 0 && other == 0 {
             continue;
         }
-        common = multiple(common, cells.cell(numbers[j], pivot[j])?.parts().1)?;
+        common = multiple(common, cells.cell(own, other)?.parts().1)?;
     }
     Some(common)
 }
@@ -66,10 +68,10 @@ fn remade<C: Cells>(cells: &C, own: i128, pivot: i128, common: i128) -> Option<i
 }
 
 /// Makes the numbers of a row of its cells over this denominator, where all are whole and fit.
-fn remake<C: Cells>(numbers: &mut [i128], pivot: &[i128], cells: &C, common: i128) -> Option<()>
+pub fn remake<C: Cells>(numbers: &mut [i128], pivot: &[i128], cells: &C, common: i128) -> Option<()>
     requires { length pivot.now ≡ length numbers.old }
-    ensures { OnSome result ((j : ℕ) → number_at numbers.new j *ℤ C.over cells.now
-        ≡ (number_at numbers.old j *ℤ C.times cells.now -ℤ C.less cells.now *ℤ number_at pivot.now j) *ℤ common) }
+    ensures { OnSome result (IsRemade numbers.old (C.over cells.now) pivot.now (C.times cells.now)
+        (C.less cells.now) numbers.new common) }
 {
     for j in 0..numbers.len() {
         numbers[j] = remade(cells, numbers[j], pivot[j], common)?;
@@ -79,21 +81,24 @@ fn remake<C: Cells>(numbers: &mut [i128], pivot: &[i128], cells: &C, common: i12
 
 /// Makes a row anew from the cells that a step makes of it, over a common denominator. Gives up where none fits with
 /// all numbers over it.
-pub fn remake_row<C: Cells>(row: &mut Row, pivot: &[i128], cells: &C) -> Option<()>
-    requires { length pivot.now ≡ length row.old.numbers.items }
-    ensures width { length row.new.numbers.items ≡ length row.old.numbers.items }
-    ensures ok { OnSome result (IsTaken row.old.numbers.items (C.over cells.now) pivot.now (C.times cells.now)
-        (C.less cells.now) row.new.numbers.items row.new.under) }
+pub fn remake_row<C: Cells>(row: &mut Row, pivot: &Pivot, cells: &C) -> Option<()>
+    requires { length (numbers_of pivot.now.row) ≡ length (numbers_of row.old) }
+    ensures width { length (numbers_of row.new) ≡ length (numbers_of row.old) }
+    ensures ok { OnSome result (IsTaken (numbers_of row.old) (C.over cells.now) (numbers_of pivot.now.row)
+        (C.times cells.now) (C.less cells.now) (numbers_of row.new) row.new.under) }
 {
-    let common = common_under(row.numbers.as_slice(), pivot, cells)?;
+    let common = common_under(row, pivot, cells)?;
     if common <= 0 {
         return None;
     }
-    let made = remake(row.numbers.as_mut_slice(), pivot, cells, common);
-    find_jumps(row.numbers.as_slice(), row.jumps.as_mut_slice());
-    row.sums = CheckSums::of_numbers(row.numbers.as_slice());
+    let right = remade(cells, row.right, pivot.row.right, common)?;
+    let made = row.entries.remake(pivot.numbers.as_slice(), cells, common);
+    row.top = made.top;
+    made.by?;
+    row.right = right;
     row.under = common;
-    row.top = top_of(row.numbers.as_slice(), row.numbers.len());
+    row.sums = CheckSums::of_entries(&row.entries);
     row.age = 0;
-    made
+    row.settle();
+    Some(())
 }

@@ -1,13 +1,15 @@
-//! The step of the numbers of a row, in one of the ways. Where a number shows that the divisor was too great, those
-//! before it are multiplied by what it was too great by.
+//! The step of the numbers of a row without its right side, in one of the ways. Where a number shows that the divisor
+//! was too great, those before it are multiplied by what it was too great by.
 
-ghost use Rattle.std.specs.Prelude.{◌≡◌, ℕ, ◌-◌, ◌^◌, ◌<◌, ◌≤◌, pos, unsigned_abs, true, length, OnSome, IfSome};
-ghost use Rattle.stack_rows.specs.RowForm.{number_at, AreJumps, SkipsOnly, IsQuotient, IsDividedPart, IsMultiplied};
-ghost use Rattle.stack_rows.specs.RowForm.{IsDividedOn, IsPartTopped, AreWords, AreFit};
+ghost use Rattle.std.specs.Prelude.{◌≡◌, ℕ, ◌+◌, ◌*◌, ◌/◌, ◌<◌, ◌≤◌, ℤ, pos, unsigned_abs, true, List, length};
+ghost use Rattle.std.specs.Prelude.{OnSome, IfSome};
+ghost use Rattle.stack_rows.specs.RowForm.{number_at, IsDivided, IsDividedPart, IsDividedOn, IsMultiplied, IsStepped};
+ghost use Rattle.stack_rows.specs.RowForm.{AreWithinTop, IsPartTopped, AreSmall, AreFit, AreMarked, AreBeside};
+ghost use Rattle.stack_rows.specs.RowForm.{AreListed};
 
 use crate::divider::Divider;
 use crate::factors::{Factors, step_fits};
-use crate::ways::{BroadStep, FitStep, Way};
+use crate::ways::{BroadStep, FitStep, Way, WordWay};
 use num_traits::CheckedMul;
 
 /// How many turns a division takes at most: each but one makes its divisor half as great at most.
@@ -20,36 +22,108 @@ pub struct Reached {
     pub size: u128,
 }
 
-/// Goes on with a step from the place that is reached to the end of the first `count` numbers, or to the first of which
-/// no quotient is made.
-pub fn divide_from<W: Way>(
+/// How far a row of words is divided, and a top of the words that are.
+#[derive(Clone, Copy)]
+pub struct WordsReached {
+    pub end: usize,
+    pub size: u64,
+}
+
+/// Goes on with a step of words from the place that is reached, at the places with a mark in one word of marks, to the
+/// end of these or to the first of which no quotient is made.
+fn words_in<W: WordWay>(
+    words: &mut [i64],
+    other: &[i64],
+    marks: &[u64],
+    w: usize,
+    way: &W,
+    from: WordsReached,
+) -> WordsReached
+    requires beside { AreBeside words.old other.now marks.now }
+    requires word { from.end / 64 ≡ w }
+    requires room { w < length marks.now }
+    requires takes { (j : ℕ) → from.end ≤ j → W.takes way.now (unsigned_abs (number_at words.old j))
+        (unsigned_abs (number_at other.now j)) }
+    ensures stepped { IsStepped words.old other.now marks.now (W.times way.now) (W.less way.now) (W.by way.now)
+        from.end from.size result.end words.new result.size }
+    ensures within { result.end ≤ w * 64 + 64 }
+    ensures before { result.end < w * 64 + 64 → result.end < length words.old }
+{
+    let mut size = from.size;
+    let mut rest = marks[w] & (u64::MAX << (from.end % 64));
+    while rest != 0 {
+        let bit = rest.trailing_zeros();
+        let j = w * 64 + bit as usize;
+        match way.quotient(words[j], other[j]) {
+            Some(number) => {
+                size |= number.unsigned_abs();
+                words[j] = number;
+            }
+            None => return WordsReached { end: j, size },
+        }
+        rest = rest & (rest - 1);
+    }
+    WordsReached {
+        end: w * 64 + 64,
+        size,
+    }
+}
+
+/// Goes on with a step of words from the place that is reached, at the places with a mark, to the end or to the first
+/// of which no quotient is made.
+pub fn words_from<W: WordWay>(
+    words: &mut [i64],
+    other: &[i64],
+    marks: &[u64],
+    way: &W,
+    from: WordsReached,
+) -> WordsReached
+    requires beside { AreBeside words.old other.now marks.now }
+    requires from { from.end ≤ length words.old }
+    requires takes { (j : ℕ) → from.end ≤ j → W.takes way.now (unsigned_abs (number_at words.old j))
+        (unsigned_abs (number_at other.now j)) }
+    ensures stepped { IsStepped words.old other.now marks.now (W.times way.now) (W.less way.now) (W.by way.now)
+        from.end from.size result.end words.new result.size }
+    ensures before { result.end ≤ length words.old }
+{
+    let mut reached = from;
+    for w in from.end / 64..marks.len() {
+        reached = words_in(words, other, marks, w, way, reached);
+        if reached.end < w * 64 + 64 {
+            return reached;
+        }
+    }
+    WordsReached {
+        end: words.len(),
+        size: reached.size,
+    }
+}
+
+/// Goes on with a step of any numbers from the place that is reached, at the places with a mark in one word of marks,
+/// to the end of these or to the first of which no quotient is made.
+fn wide_in<W: Way>(
     numbers: &mut [i128],
     other: &[i128],
-    jumps: &[u16],
-    count: usize,
+    marks: &[u64],
+    w: usize,
     way: &W,
     from: Reached,
 ) -> Reached
-    requires width { length other.now ≡ length numbers.old }
-    requires long { length jumps.now ≡ length numbers.old }
-    requires count { count ≤ length numbers.old }
-    requires skips { SkipsOnly (λ x. from.end ≤ x → IsQuotient (W.by way.now) (W.times way.now) (W.less way.now)
-        (number_at numbers.old x) (number_at other.now x) (number_at numbers.old x)) jumps.now }
-    requires small { SkipsOnly (λ x. from.end ≤ x → x < count → unsigned_abs (number_at numbers.old x) ≤ from.size)
-        jumps.now }
-    requires takes { (j : ℕ) → from.end ≤ j → j < count → W.takes way.now (unsigned_abs (number_at numbers.old j))
+    requires beside { AreBeside numbers.old other.now marks.now }
+    requires word { from.end / 64 ≡ w }
+    requires room { w < length marks.now }
+    requires takes { (j : ℕ) → from.end ≤ j → W.takes way.now (unsigned_abs (number_at numbers.old j))
         (unsigned_abs (number_at other.now j)) }
-    requires from { from.end ≤ count }
-    ensures after { from.end ≤ result.end }
-    ensures before { result.end ≤ count }
-    ensures divided { IsDividedPart numbers.old other.now (W.times way.now) (W.less way.now) (W.by way.now) from.end
-        result.end numbers.new }
-    ensures larger { from.size ≤ result.size }
-    ensures size { IsPartTopped from.end result.end numbers.new result.size }
+    ensures stepped { IsStepped numbers.old other.now marks.now (W.times way.now) (W.less way.now) (W.by way.now)
+        from.end from.size result.end numbers.new result.size }
+    ensures within { result.end ≤ w * 64 + 64 }
+    ensures before { result.end < w * 64 + 64 → result.end < length numbers.old }
 {
     let mut size = from.size;
-    let mut j = from.end;
-    while j < count {
+    let mut rest = marks[w] & (u64::MAX << (from.end % 64));
+    while rest != 0 {
+        let bit = rest.trailing_zeros();
+        let j = w * 64 + bit as usize;
         match way.quotient(numbers[j], other[j]) {
             Some(number) => {
                 size |= number.unsigned_abs();
@@ -57,16 +131,77 @@ pub fn divide_from<W: Way>(
             }
             None => return Reached { end: j, size },
         }
-        j = usize::from(jumps[j]);
+        rest = rest & (rest - 1);
     }
-    Reached { end: count, size }
+    Reached {
+        end: w * 64 + 64,
+        size,
+    }
+}
+
+/// Goes on with a step of any numbers from the place that is reached, at the places with a mark, to the end or to the
+/// first of which no quotient is made.
+pub fn wide_from<W: Way>(
+    numbers: &mut [i128],
+    other: &[i128],
+    marks: &[u64],
+    way: &W,
+    from: Reached,
+) -> Reached
+    requires beside { AreBeside numbers.old other.now marks.now }
+    requires from { from.end ≤ length numbers.old }
+    requires takes { (j : ℕ) → from.end ≤ j → W.takes way.now (unsigned_abs (number_at numbers.old j))
+        (unsigned_abs (number_at other.now j)) }
+    ensures stepped { IsStepped numbers.old other.now marks.now (W.times way.now) (W.less way.now) (W.by way.now)
+        from.end from.size result.end numbers.new result.size }
+    ensures before { result.end ≤ length numbers.old }
+{
+    let mut reached = from;
+    for w in from.end / 64..marks.len() {
+        reached = wide_in(numbers, other, marks, w, way, reached);
+        if reached.end < w * 64 + 64 {
+            return reached;
+        }
+    }
+    Reached {
+        end: numbers.len(),
+        size: reached.size,
+    }
+}
+
+/// A step of small numbers at the listed places of the pivot row alone, where the row isn't multiplied. Gives a top of
+/// all its numbers, by one that they had.
+pub fn small_listed(
+    words: &mut [i64],
+    other: &[i64],
+    list: &[u16],
+    count: usize,
+    less: i64,
+    top: u128,
+) -> u128
+    requires width { length other.now ≡ length words.old }
+    requires listed { AreListed other.now list.now count }
+    requires small { (j : ℕ) → AreSmall (pos 1) less (unsigned_abs (number_at words.old j))
+        (unsigned_abs (number_at other.now j)) }
+    requires top { AreWithinTop words.old top }
+    ensures divided { IsDivided words.old other.now (pos 1) less (pos 1) words.new }
+    ensures top { AreWithinTop words.new result }
+{
+    let mut size = 0u64;
+    for i in 0..count {
+        let j = usize::from(list[i]);
+        let number = words[j] - less * other[j];
+        size |= number.unsigned_abs();
+        words[j] = number;
+    }
+    top | u128::from(size)
 }
 
 /// Multiplies the first numbers.
 pub fn multiply_before(numbers: &mut [i128], end: usize, by: i128) -> Option<()>
     requires { end ≤ length numbers.old }
     ensures numbers { OnSome result (IsMultiplied numbers.old by end numbers.new) }
-    ensures fits { OnSome result (IsPartTopped 0 end numbers.new (2 ^ 128 - 1)) }
+    ensures kept { (j : ℕ) → number_at numbers.old j ≡ pos 0 → number_at numbers.new j ≡ pos 0 }
 {
     for j in 0..end {
         let number = numbers[j];
@@ -95,38 +230,42 @@ pub fn top_of(numbers: &[i128], count: usize) -> u128
     top
 }
 
+/// The same of words.
+#[tactic(auto, using(std::proofs::lemmas::Nat::le_or_l, std::proofs::lemmas::Nat::le_or_r))]
+pub fn top_of_words(words: &[i64], count: usize) -> u128
+    requires { count ≤ length words.now }
+    ensures { IsPartTopped 0 count words.now result }
+{
+    let mut top = 0u64;
+    for j in 0..count {
+        top |= words[j].unsigned_abs();
+    }
+    u128::from(top)
+}
+
 /// Goes on with a step of any numbers: `fit`: what is divided fits.
 fn divide_by(
     numbers: &mut [i128],
     other: &[i128],
-    jumps: &[u16],
-    count: usize,
+    marks: &[u64],
     s: &BroadStep,
     fit: bool,
     from: Reached,
 ) -> Reached
-    requires width { length other.now ≡ length numbers.old }
-    requires long { length jumps.now ≡ length numbers.old }
-    requires count { count ≤ length numbers.old }
-    requires skips { SkipsOnly (λ x. from.end ≤ x → IsQuotient s.now.divider.by s.now.factors.times s.now.factors.less
-        (number_at numbers.old x) (number_at other.now x) (number_at numbers.old x)) jumps.now }
-    requires small { SkipsOnly (λ x. from.end ≤ x → x < count → unsigned_abs (number_at numbers.old x) ≤ from.size)
-        jumps.now }
-    requires fit { fit ≡ true → (j : ℕ) → from.end ≤ j → j < count → AreFit s.now.factors.times s.now.factors.less
+    requires beside { AreBeside numbers.old other.now marks.now }
+    requires from { from.end ≤ length numbers.old }
+    requires fit { fit ≡ true → (j : ℕ) → from.end ≤ j → AreFit s.now.factors.times s.now.factors.less
         (unsigned_abs (number_at numbers.old j)) (unsigned_abs (number_at other.now j)) }
-    requires from { from.end ≤ count }
-    ensures after { from.end ≤ result.end }
-    ensures before { result.end ≤ count }
-    ensures divided { IsDividedPart numbers.old other.now s.now.factors.times s.now.factors.less s.now.divider.by
-        from.end result.end numbers.new }
-    ensures size { IsPartTopped from.end result.end numbers.new result.size }
+    ensures stepped { IsStepped numbers.old other.now marks.now s.now.factors.times s.now.factors.less
+        s.now.divider.by from.end from.size result.end numbers.new result.size }
+    ensures before { result.end ≤ length numbers.old }
 {
     match &s.words {
         Some(w) if fit => {
             let way = FitStep::of(*w, s.divider);
-            divide_from(numbers, other, jumps, count, &way, from)
+            wide_from(numbers, other, marks, &way, from)
         }
-        _ => divide_from(numbers, other, jumps, count, s, from),
+        _ => wide_from(numbers, other, marks, s, from),
     }
 }
 
@@ -135,23 +274,20 @@ fn divide_by(
 fn divide_on(
     numbers: &mut [i128],
     other: &[i128],
-    jumps: &[u16],
-    count: usize,
+    marks: &[u64],
     s: &BroadStep,
     fit: bool,
     from: usize,
 ) -> Option<i128>
-    requires width { length other.now ≡ length numbers.old }
-    requires long { length jumps.now ≡ length numbers.old }
-    requires count { count ≤ length numbers.old }
-    requires from { from < count }
-    requires skips { SkipsOnly (λ x. (from ≤ x → number_at numbers.old x ≡ pos 0) × (number_at other.now x ≡ pos 0))
-        jumps.now }
-    requires fit { fit ≡ true → (j : ℕ) → from ≤ j → j < count → AreFit s.now.factors.times s.now.factors.less
+    requires beside { AreBeside numbers.old other.now marks.now }
+    requires from { from < length numbers.old }
+    requires fit { fit ≡ true → (j : ℕ) → from ≤ j → AreFit s.now.factors.times s.now.factors.less
         (unsigned_abs (number_at numbers.old j)) (unsigned_abs (number_at other.now j)) }
-    ensures { IfSome result (λ by. IsDividedOn numbers.old other.now s.now.factors.times s.now.factors.less
-        s.now.divider.by by from count numbers.new) }
+    ensures ok { IfSome result (λ by. IsDividedOn numbers.old other.now s.now.factors.times s.now.factors.less
+        s.now.divider.by by from (length numbers.old) numbers.new) }
+    ensures marked { AreMarked numbers.new marks.now }
 {
+    let count = numbers.len();
     let mut by = s.divider.by;
     let mut j = from;
     for _ in 0..TURNS {
@@ -160,7 +296,7 @@ fn divide_on(
         by = lesser;
         let step = BroadStep::of(s.factors, by);
         let from = Reached { end: j, size: 0 };
-        j = divide_by(numbers, other, jumps, count, &step, fit, from).end;
+        j = divide_by(numbers, other, marks, &step, fit, from).end;
         if count <= j {
             return Some(by);
         }
@@ -175,43 +311,37 @@ pub fn fit(factors: Factors, own: u128, other: u128) -> bool
     step_fits(1, factors, own, other)
 }
 
-/// Makes of the first numbers of a row k times themselves minus t times those of another one, divided by a guess of
-/// what all have in common, or by a lesser number. `words`: both have words. `fit`: what is divided fits. Gives up
-/// where a number doesn't fit.
+/// Goes on with a step of the numbers of a row from the place that is reached: k times themselves minus t times those
+/// of another one, divided by a guess of what all have in common, or by a lesser number. `fit`: what is divided fits.
+/// Gives up where a number doesn't fit.
 pub fn divide(
     numbers: &mut [i128],
     other: &[i128],
-    jumps: &[u16],
-    count: usize,
+    marks: &[u64],
     s: &BroadStep,
-    words: bool,
     fit: bool,
+    from: Reached,
 ) -> Option<Divided>
-    requires width { length other.now ≡ length numbers.old }
-    requires long { length jumps.now ≡ length numbers.old }
-    requires count { count ≤ length numbers.old }
-    requires jumps { AreJumps numbers.old jumps.now }
-    requires other_jumps { AreJumps other.now jumps.now }
-    requires words { words ≡ true → (j : ℕ) → j < count → AreWords (unsigned_abs (number_at numbers.old j))
-        (unsigned_abs (number_at other.now j)) }
-    requires fit { fit ≡ true → (j : ℕ) → j < count → AreFit s.now.factors.times s.now.factors.less
+    requires beside { AreBeside numbers.old other.now marks.now }
+    requires from { from.end ≤ length numbers.old }
+    requires topped { IsPartTopped 0 from.end numbers.old from.size }
+    requires fit { fit ≡ true → (j : ℕ) → from.end ≤ j → AreFit s.now.factors.times s.now.factors.less
         (unsigned_abs (number_at numbers.old j)) (unsigned_abs (number_at other.now j)) }
-    ensures ok { IfSome result (λ d. IsDividedPart numbers.old other.now s.now.factors.times s.now.factors.less d.by 0
-        count numbers.new) }
-    ensures top { IfSome result (λ d. IsPartTopped 0 count numbers.new d.top) }
+    ensures ok { IfSome result (λ d. (old : List ℤ) → IsDividedPart old other.now s.now.factors.times
+        s.now.factors.less s.now.divider.by 0 from.end numbers.old → IsDivided old other.now s.now.factors.times
+        s.now.factors.less d.by numbers.new) }
+    ensures top { IfSome result (λ d. AreWithinTop numbers.new d.top) }
+    ensures marked { AreMarked numbers.new marks.now }
 {
-    let from = Reached { end: 0, size: 0 };
-    let reached = match &s.words {
-        Some(w) if words => divide_from(numbers, other, jumps, count, w, from),
-        _ => divide_by(numbers, other, jumps, count, s, fit, from),
-    };
+    let count = numbers.len();
+    let reached = divide_by(numbers, other, marks, s, fit, from);
     if count <= reached.end {
         return Some(Divided {
             by: s.divider.by,
             top: reached.size,
         });
     }
-    let by = divide_on(numbers, other, jumps, count, s, fit, reached.end)?;
+    let by = divide_on(numbers, other, marks, s, fit, reached.end)?;
     let top = top_of(numbers, count);
     Some(Divided { by, top })
 }

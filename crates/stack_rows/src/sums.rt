@@ -1,6 +1,7 @@
 //! Check sums of a row, which show what its numbers have in common. They are a hint: nothing here has a clause, and
 //! what is divided by a hint is tested.
 
+use crate::entries::Entries;
 use crate::words::{inverse, low, product_of, word_inverse};
 use stack_rational::{divisor_of, divisor_of_words};
 
@@ -96,12 +97,12 @@ impl CheckSums {
     }
 
     /// The sums of the artificial numbers of a row.
-    pub fn of_numbers(numbers: &[i128]) -> CheckSums {
+    pub fn of_entries(entries: &Entries) -> CheckSums {
         let mut sums = CheckSums::zero();
-        for j in 1..numbers.len() {
-            let number = numbers[j - 1];
+        for j in 0..entries.count() {
+            let number = entries.at(j);
             if number != 0 {
-                sums = sums.with(number, j);
+                sums = sums.with(number, j.wrapping_add(1));
             }
         }
         sums
@@ -117,9 +118,24 @@ impl CheckSums {
         }
     }
 
-    /// The same of words.
+    /// The sums of a row less t times those of the pivot row.
+    fn less_words(self, pivot: CheckSums, t: i64) -> CheckSums {
+        let t = t as i128;
+        CheckSums {
+            first: self.first.wrapping_sub(t.wrapping_mul(pivot.first)),
+            second: self.second.wrapping_sub(t.wrapping_mul(pivot.second)),
+            third: self.third.wrapping_sub(t.wrapping_mul(pivot.third)),
+            fourth: self.fourth.wrapping_sub(t.wrapping_mul(pivot.fourth)),
+        }
+    }
+
+    /// The same of words, quicker where k is 1.
     pub fn stepped_by_words(self, pivot: CheckSums, k: i64, t: i64) -> CheckSums {
-        self.stepped(pivot, k as i128, t as i128)
+        if k == 1 {
+            self.less_words(pivot, t)
+        } else {
+            self.stepped(pivot, k as i128, t as i128)
+        }
     }
 
     /// A divisor of another number, which should go into all numbers of the row.

@@ -30,6 +30,25 @@ pub trait Way {
         ensures { IfSome result (λ r. IsQuotient (by self.now) (times self.now) (less self.now) number other r) };
 }
 
+/// A way to make the step of one word.
+pub trait WordWay {
+    ghost use Rattle.std.specs.Prelude.{ℤ, ℕ};
+
+    // as of a way
+    ghost times: { Self → ℤ };
+
+    ghost less: { Self → ℤ };
+
+    ghost by: { Self → ℤ };
+
+    ghost takes: { Self → ℕ → ℕ → Type 0 };
+
+    /// Gives up where the quotient isn't whole, and where it isn't a word.
+    fn quotient(&self, number: i64, other: i64) -> Option<i64>
+        requires { takes self.now (unsigned_abs number) (unsigned_abs other) }
+        ensures { IfSome result (λ r. IsQuotient (by self.now) (times self.now) (less self.now) number other r) };
+}
+
 /// The step of small numbers, not divided.
 #[derive(Drop)]
 pub struct SmallStep {
@@ -62,7 +81,20 @@ impl SmallStep {
     }
 }
 
-impl Way for SmallStep {
+impl SmallStep {
+    /// Its factors.
+    pub fn factors(&self) -> Factors
+        ensures times { result.times ≡ self.now.times }
+        ensures less { result.less ≡ self.now.less }
+    {
+        Factors {
+            times: self.times as i128,
+            less: self.less as i128,
+        }
+    }
+}
+
+impl WordWay for SmallStep {
     ghost times = { λ s. s.times };
 
     ghost less = { λ s. s.less };
@@ -71,8 +103,8 @@ impl Way for SmallStep {
 
     ghost takes = { λ s n o. AreSmall s.times s.less n o };
 
-    fn quotient(&self, number: i128, other: i128) -> Option<i128> {
-        Some((number as i64 * self.times - self.less * other as i64) as i128)
+    fn quotient(&self, number: i64, other: i64) -> Option<i64> {
+        Some(number * self.times - self.less * other)
     }
 }
 
@@ -106,8 +138,8 @@ impl WordStep {
     }
 }
 
-impl Way for WordStep {
-    ghost use Rattle.stack_rows.specs.RowForm.{AreWords};
+impl WordWay for WordStep {
+    ghost use Rattle.std.specs.Prelude.{⊤};
 
     ghost times = { λ s. s.times };
 
@@ -115,15 +147,15 @@ impl Way for WordStep {
 
     ghost by = { λ s. s.by };
 
-    ghost takes = { λ s n o. AreWords n o };
+    ghost takes = { λ s n o. ⊤ };
 
-    fn quotient(&self, number: i128, other: i128) -> Option<i128> {
-        let left = product_of(number as i64, self.times);
-        let right = product_of(self.less, other as i64);
+    fn quotient(&self, number: i64, other: i64) -> Option<i64> {
+        let left = product_of(number, self.times);
+        let right = product_of(self.less, other);
         let n = CheckedSub::checked_sub(&left, &right)?;
         let quotient = low(n).wrapping_mul(self.inverse).wrapping_shr(self.twos);
         if product_of(quotient, self.by) == n {
-            Some(quotient as i128)
+            Some(quotient)
         } else {
             None
         }

@@ -7,7 +7,7 @@ use Rattle.stack_rows.specs.RowForm.{number_at}
 use Rattle.stack_rows.proofs.Numbers.{at-set_same, at-set_other, done_more}
 use Rattle.stack_inverse.specs.declared.first.First.{First}
 use Rattle.stack_inverse.specs.declared.row.TableRow.{TableRow}
-use Rattle.stack_inverse.specs.Marks.{mark_in}
+use Rattle.stack_rows.specs.Marks.{mark_in}
 use Rattle.stack_inverse.specs.Columns.{RowSeen, multipliers, cells_at}
 use Rattle.stack_inverse.specs.RowsSeen.{seen_at, number_in_row}
 use Rattle.stack_inverse.proofs.Made.{nothing_made}

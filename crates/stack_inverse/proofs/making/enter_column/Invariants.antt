@@ -2,7 +2,7 @@ use Rattle.std.proofs.Common.{◌≡◌, ◌≢◌, ℕ, suc, ◌<◌, ◌≤◌
 use Rattle.stack_rational.proofs.Common.{widest}
 use Rattle.stack_rows.specs.RowForm.{number_at}
 use Rattle.stack_inverse.specs.Columns.{multipliers}
-use Rattle.stack_inverse.specs.Marks.{mark_in}
+use Rattle.stack_rows.specs.Marks.{mark_in}
 use Rattle.stack_inverse.specs.RowsSeen.{seen_at, number_in_row}
 use Rattle.stack_inverse.proofs.making.enter_column.Given as goal
 

@@ -1,5 +1,5 @@
 use Rattle.std.proofs.Common.{◌≡◌, ◌<◌, refl, ap, length, arith}
-use Rattle.stack_inverse.specs.Marks.{mark_in}
+use Rattle.stack_rows.specs.Marks.{mark_in}
 use Rattle.stack_inverse.proofs.Marked.{list_lent, list_put, wide_put}
 use Rattle.stack_inverse.proofs.marks.fill_lists.Goals as goal
 

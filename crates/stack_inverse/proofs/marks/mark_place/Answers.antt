@@ -1,6 +1,7 @@
 use Rattle.std.proofs.Common.{◌≢◌, refl, sym, ap, ◌∙◌, ℕ, List, length, arith}
 use Rattle.stack_rational.proofs.Common.{ℕ_discrete}
-use Rattle.stack_inverse.specs.Marks.{mark_in, mark_at}
+use Rattle.stack_rows.specs.Marks.{mark_in}
+use Rattle.stack_inverse.specs.Marks.{mark_at}
 use Rattle.stack_inverse.proofs.Marked.{list_lent, list_put, wide_put}
 use Rattle.stack_inverse.proofs.marks.mark_place.Goals as goal
 

@@ -8,14 +8,14 @@ use Rattle.stack_inverse.proofs.PutRow.{seen_index, seen_get}
 use Rattle.stack_inverse.proofs.ObjectivePut.{costs_added}
 use Rattle.stack_inverse.proofs.objective.factor_row.Goals as goal
 
-pub copy_from_slice-requires : goal.copy_from_slice-requires
-copy_from_slice-requires c =
+pub copy_numbers-requires : goal.copy_numbers-requires
+copy_numbers-requires c =
     let r = c.in-Some.r in
     let m = c.args.first.now.rows in
     let lt : r < m = search rules in
-    c.requires.width ∙ sym (ap length c.as_slice.ensures.value
-    ∙ ap (λ (s : RowSeen). length s.numbers) (seen_index c.args.rows.now r c.index-rows-r-in-Some.result
-    (omega (arith, lt, c.requires.height)) c.index-rows-r-in-Some.is) ∙ c.requires.widths r (omega (arith, lt)))
+    c.requires.width ∙ sym (ap (λ (s : RowSeen). length s.numbers) (seen_index c.args.rows.now r
+    c.index-rows-r-in-Some.result (omega (arith, lt, c.requires.height)) c.index-rows-r-in-Some.is)
+    ∙ c.requires.widths r (omega (arith, lt)))
 
 pub returns-then-cell-under-clause-ok : goal.returns-then-cell-under-clause-ok
 returns-then-cell-under-clause-ok c =
@@ -27,8 +27,8 @@ returns-then-cell-under-clause-ok c =
     let inside : r < length rows = omega (arith, lt, c.requires.height) in
     let read = seen_index rows r c.index-rows-r-in-Some-2.result inside c.index-rows-r-in-Some-2.is in
     let row = (slice_index_or rows r c.index-rows-r-in-Some-2.result).row in
-    let ys = c.copy_from_slice.new.self in
-    let same : ys ≡ (seen_at rows r).numbers = c.copy_from_slice.ensures.after ∙ c.as_slice.ensures.value
+    let ys = c.copy_numbers.new.numbers in
+    let same : ys ≡ (seen_at rows r).numbers = c.copy_numbers.ensures
     ∙ ap (λ (s : RowSeen). s.numbers) (seen_index rows r c.index-rows-r-in-Some.result inside
     c.index-rows-r-in-Some.is) in
     let under : SFits w128 row.under = search rules in

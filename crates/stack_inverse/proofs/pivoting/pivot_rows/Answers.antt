@@ -1,6 +1,7 @@
 use Rattle.std.proofs.Common.{sym, ap, subst, subst₂, ◌∙◌, suc, List, ℤ, arith, rules, SFits, to_z-of_z}
 use Rattle.stack_rational.proofs.Common.{w128, widest, ℕ_discrete}
 use Rattle.stack_rows.specs.RowForm.{number_at}
+use Rattle.stack_rows.specs.RowSeen.{numbers_of}
 use Rattle.stack_inverse.specs.RowBlock.{IsDividedRow, IsPivotedCells, AreFitting, KeepsZeros}
 use Rattle.stack_inverse.specs.Columns.{RowSeen}
 use Rattle.stack_inverse.specs.RowsSeen.{seen_at, number_in_row, cell_in_row, pivot_cell, columns_of, cells_of_rows}
@@ -45,8 +46,8 @@ both : (c : After-put_pivot) → IsDividedRow widest (cell_in_row c.args.first.n
     × AreFitting widest (cells_of_rows c.args.first.now c.put_pivot.new.rows) (seen_at c.put_pivot.new.rows)
 both c d =
     let f = c.args.first.now in
-    let q = c.divide.new.pivot.row in
-    pivoted f.rows f.columns.items (seen_at c.args.rows.now) q.numbers.items q.under c.args.row
+    let q = c.divide.new.pivot.divided.row in
+    pivoted f.rows f.columns.items (seen_at c.args.rows.now) (numbers_of q) q.under c.args.row
     c.args.column d (λ k l. seen_past c.args.rows.now (suc f.rows) k c.requires.height (omega (arith, l)))
     (seen_at c.reduce_others.new.rows) (seen_at c.put_pivot.new.rows) c.requires.row_in
     (λ k l. seen_past c.reduce_others.new.rows (suc f.rows) k (c.reduce_others.auto.rows ∙ c.requires.height)
@@ -63,8 +64,8 @@ returns-in-Ok-clause-ok c = let p = goal.at.returns-in-Ok-clause-ok c in
 pub returns-in-Err-clause-refused : goal.returns-in-Err-clause-refused
 returns-in-Err-clause-refused c =
     let f = c.args.first.now in
-    let q = c.divide.new.pivot.row in
-    refused f.rows f.columns.items (seen_at c.args.rows.now) q.numbers.items q.under c.args.row
+    let q = c.divide.new.pivot.divided.row in
+    refused f.rows f.columns.items (seen_at c.args.rows.now) (numbers_of q) q.under c.args.row
     c.args.column (divided (goal.at.returns-in-Err-clause-refused c).In-Some)
     (λ k l. seen_past c.args.rows.now (suc f.rows) k c.requires.height (omega (arith, l))) c.in-Err.e
     c.in-Err.ensures.refused
@@ -83,3 +84,6 @@ returns-in-Ok-clause-own_zeros c = λ q z.
     c.index-rows-row.is in
     ap (λ (xs : List ℤ). number_at xs q) c.put_pivot.ensures.own_numbers
     ∙ c.in-Some.ensures.zeros q (ap (λ (s : RowSeen). number_at s.numbers q) same ∙ z)
+
+pub returns-in-Ok-clause-own : goal.returns-in-Ok-clause-own
+returns-in-Ok-clause-own c = sym c.put_pivot.ensures.own_numbers

@@ -5,13 +5,14 @@ use Rattle.std.proofs.lemmas.Bool.{cases_lt}
 use Rattle.stack_rational.proofs.Common.{w128, ordered_fractions, is_too_wide, widest, is_zero_whole}
 use Rattle.stack_table.specs.Spots.{reduce_spot}
 use Rattle.stack_rows.specs.RowForm.{number_at}
+use Rattle.stack_rows.specs.RowSeen.{numbers_of}
 use Rattle.stack_inverse.specs.RowBlock.{AllNumbersFit, AreFitting}
 use Rattle.stack_inverse.specs.CellSteps.{TellsSpot}
 use Rattle.stack_inverse.specs.declared.first.First.{First}
 use Rattle.stack_inverse.specs.declared.row.TableRow.{TableRow}
 use Rattle.stack_inverse.specs.declared.row.PivotRow.{PivotRow}
 use Rattle.stack_inverse.specs.Columns.{RowSeen, multipliers, AreEntered}
-use Rattle.stack_inverse.specs.Marks.{mark_in}
+use Rattle.stack_rows.specs.Marks.{mark_in}
 use Rattle.stack_inverse.proofs.Steps.{row_stays}
 use Rattle.stack_inverse.specs.RowsSeen.{seen_of, seen_at, number_in_row, cell_in_row, cells_of_rows, columns_of}
 use Rattle.stack_inverse.specs.RowsSeen.{pivot_cell, IsReducedBy}
@@ -24,7 +25,7 @@ stays : (p : First) (rows : List TableRow) (q : PivotRow) (k column : ℕ) → (
     AreFitting widest (cells_of_rows p rows) (seen_at rows) → number_in_row p (seen_at rows k) column ≡ pos 0 →
     IsReducedBy widest p (seen_at rows k) q k column (seen_at rows k)
 stays p rows q k column f fitting z = row_stays p.rows p.columns.items (seen_at rows k).numbers
-    (seen_at rows k).under (under_positive rows k) q.row.numbers.items q.row.under k column (fitting k f)
+    (seen_at rows k).under (under_positive rows k) (numbers_of q.divided.row) q.divided.row.under k column (fitting k f)
     (ap is_zero_whole z)
 
 -- so do rows that are passed over

@@ -1,5 +1,6 @@
 use Rattle.std.proofs.Common.{sym, ap, ◌∙◌, to_z-of_z}
 use Rattle.stack_rational.proofs.Common.{is_zero_whole}
+use Rattle.stack_rows.specs.RowSeen.{numbers_of}
 use Rattle.stack_inverse.proofs.Steps.{row_stays}
 use Rattle.stack_inverse.proofs.reducing.reduce.Goals as goal
 
@@ -7,8 +8,8 @@ pub returns-then-stays-clause-ok : goal.returns-then-stays-clause-ok
 returns-then-stays-clause-ok c = λ column hf hm.
     let f = c.args.first.now in
     let r = c.args.row.now.row in
-    let q = c.args.pivot.now.row in
-    row_stays f.rows f.columns.items r.numbers.items r.under r.positive q.numbers.items q.under c.args.i column
+    let q = c.args.pivot.now.divided.row in
+    row_stays f.rows f.columns.items (numbers_of r) r.under r.positive (numbers_of q) q.under c.args.i column
     (hm (c.stays.ensures.fits c.if-stays.true))
     (ap is_zero_whole (sym hf ∙ sym (to_z-of_z c.ranges.number)) ∙ c.stays.ensures.zero c.if-stays.true)
 

@@ -1,5 +1,6 @@
 use Rattle.std.proofs.Common.{arith, rules, sym, ap, length, ◌∙◌, SFits, to_z-of_z}
 use Rattle.stack_rational.proofs.Common.{w128}
+use Rattle.stack_rows.specs.RowSeen.{numbers_of}
 use Rattle.stack_inverse.proofs.Steps.{row_by_tops}
 use Rattle.stack_inverse.proofs.RowByCells.{row_by_cells}
 use Rattle.stack_inverse.proofs.reducing.step.Goals as goal
@@ -13,11 +14,11 @@ pub returns-in-Some-take_small-clause-ok : goal.returns-in-Some-take_small-claus
 returns-in-Some-take_small-clause-ok c = λ column hf.
     let f = c.args.first.now in
     let r = c.args.row.now.row in
-    let q = c.args.pivot.now.row in
+    let q = c.args.pivot.now.divided.row in
     let k = c.in-Some.factors in
     let step = c.in-Some-small_step.ensures in
     let new = c.take_small.new.self in
-    row_by_tops f.rows f.columns.items r.numbers.items r.under r.positive new.numbers.items q.numbers.items new.under
+    row_by_tops f.rows f.columns.items (numbers_of r) r.under r.positive (numbers_of new) (numbers_of q) new.under
     q.under k.times k.less c.args.number column q.positive c.in-Some.ensures.some hf
     (rw (to_z-of_z c.ranges.number, c.requires.divider) at c.in-Some.ensures.cross)
     (rw (step.times, step.less) at c.in-Some-take_small.ensures.ok) f.top c.args.pivot.now.whole_top f.first c.args.i
@@ -27,10 +28,10 @@ pub returns-in-Some-take-clause-ok : goal.returns-in-Some-take-clause-ok
 returns-in-Some-take-clause-ok c = λ column hf.
     let f = c.args.first.now in
     let r = c.args.row.now.row in
-    let q = c.args.pivot.now.row in
+    let q = c.args.pivot.now.divided.row in
     let k = c.in-Some.factors in
     let new = c.take.new.self in
-    row_by_tops f.rows f.columns.items r.numbers.items r.under r.positive new.numbers.items q.numbers.items new.under
+    row_by_tops f.rows f.columns.items (numbers_of r) r.under r.positive (numbers_of new) (numbers_of q) new.under
     q.under k.times k.less c.args.number column q.positive c.in-Some.ensures.some hf
     (rw (to_z-of_z c.ranges.number, c.requires.divider) at c.in-Some.ensures.cross)
     (rw (c.fits_for.ensures.numbers, c.fits_for.ensures.under) at c.in-Some-take.ensures.ok) f.top
@@ -41,12 +42,12 @@ pub returns-in-Ok-clause-ok : goal.returns-in-Ok-clause-ok
 returns-in-Ok-clause-ok c = λ column hf.
     let f = c.args.first.now in
     let r = c.args.row.now.row in
-    let q = c.args.pivot.now.row in
+    let q = c.args.pivot.now.divided.row in
     let new = c.step_by_cells.new.row.row in
     let same = c.fits_for.ensures in
     let own : SFits w128 r.under = search rules in
     let other : SFits w128 q.under = search rules in
-    row_by_cells f.rows f.columns.items r.numbers.items r.under r.positive new.numbers.items q.numbers.items new.under
+    row_by_cells f.rows f.columns.items (numbers_of r) r.under r.positive (numbers_of new) (numbers_of q) new.under
     q.under c.args.number c.args.i column q.positive c.under_fits.ensures hf
     (rw (same.numbers, same.under, to_z-of_z own, to_z-of_z other, to_z-of_z c.ranges.number) at c.in-Ok.ensures.ok)
     (rw (same.numbers, same.under, to_z-of_z own, to_z-of_z c.ranges.number) at c.in-Ok.ensures.none)
@@ -74,7 +75,7 @@ step_by_cells-requires-clause-under c =
 
 pub step_by_cells-requires-clause-pivot_under : goal.step_by_cells-requires-clause-pivot_under
 step_by_cells-requires-clause-pivot_under c =
-    let other : SFits w128 c.args.pivot.now.row.under = search rules in
+    let other : SFits w128 c.args.pivot.now.divided.row.under = search rules in
     to_z-of_z other
 
 pub returns-in-Some-take-clause-width : goal.returns-in-Some-take-clause-width

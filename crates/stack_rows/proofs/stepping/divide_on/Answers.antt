@@ -1,42 +1,40 @@
-use Rattle.std.proofs.Common.{◌≡◌, ◌∙◌, ap, ℕ, suc, ◌<◌, ◌≤◌, get_or, arith, rules, pos, nat_abs, ◌*ℤ◌, SFits}
-use Rattle.std.proofs.Common.{to_z, of_z, to_z-of_z}
+use Rattle.std.proofs.Common.{◌≡◌, ap, ◌∙◌, ◌/◌, suc, length, arith, rules, ◌*ℤ◌, SFits, to_z, of_z, to_z-of_z}
 use Rattle.stack_rational.proofs.Common.{w128}
-use Rattle.stack_rows.specs.RowForm.{number_at, IsDividedOn}
-use Rattle.stack_rows.proofs.Combined.{made_nothing}
+use Rattle.stack_rows.specs.RowForm.{number_at, IsDividedOn, AreMarked, AreBeside}
 use Rattle.stack_rows.proofs.Divided.{turned}
+use Rattle.stack_rows.proofs.Stepped.{still}
 use Rattle.stack_rows.proofs.stepping.divide_on.Goals as goal
 use Rattle.stack_rows.proofs.stepping.divide_on.Goals.{After-of-step, After-divide_by-j}
 
--- what is skipped from the place that is reached on is nothing in both rows
-module _ (c : After-of-step) (j x : ℕ) (a : j < x) (b : x < get_or c.args.jumps.now j (suc j)) (l : c.loop.j ≤ x) where
-  other : number_at c.args.other.now x ≡ pos 0
-  other = (c.requires.skips.between j x a b).1
+-- the numbers that are multiplied stand beside the other row as before
+beside : (c : After-of-step) → AreBeside c.multiply_before.new.numbers c.args.other.now c.args.marks.now
+beside c =
+    let old = c.requires.beside in
+    let more = c.multiply_before.new.numbers in
+    let long : length more ≡ length c.args.numbers.now = omega (
+      arith,
+      c.multiply_before.auto.numbers,
+      c.loop.auto.numbers,
+    ) in
+    record {
+      width = omega (arith, old.width, long);
+      few = omega (arith, old.few, long);
+      long = old.long ∙ ap (λ n. suc (n / 64)) (omega (arith, long));
+      own = record {
+        nothing = λ j z. c.multiply_before.ensures.kept j (c.loop.invariant.marked.nothing j z);
+        within = λ j l. old.own.within j (omega (arith, l, long));
+      };
+      other = old.other;
+    }
 
-  own : number_at c.multiply_before.new.numbers x ≡ pos 0
-  own = c.in_ok-multiply_before.ensures.numbers.after x l ∙ c.loop.invariant.divided.after x l
-      ∙ (c.requires.skips.between j x a b).0 (omega (arith, l, c.loop.invariant.begun))
-
-pub divide_by-j-requires-clause-skips : goal.divide_by-j-requires-clause-skips
-divide_by-j-requires-clause-skips c = record {
-  further = c.requires.skips.further;
-  between = λ j x a b l.
-      let p = (goal.at.divide_by-j-requires-clause-skips c).After-of-step in
-      made_nothing _ _ _ (own p j x a b l) (other p j x a b l) (own p j x a b l);
-}
-
-pub divide_by-j-requires-clause-small : goal.divide_by-j-requires-clause-small
-divide_by-j-requires-clause-small c = record {
-  further = c.requires.skips.further;
-  between = λ j x a b l m.
-      let p = (goal.at.divide_by-j-requires-clause-small c).After-of-step in
-      omega (arith, ap nat_abs (own p j x a b l));
-}
+pub divide_by-j-requires-clause-beside : goal.divide_by-j-requires-clause-beside
+divide_by-j-requires-clause-beside c = beside (goal.at.divide_by-j-requires-clause-beside c).After-of-step
 
 pub divide_by-j-requires-clause-fit : goal.divide_by-j-requires-clause-fit
-divide_by-j-requires-clause-fit c = λ e j l m.
+divide_by-j-requires-clause-fit c = λ e j l.
     let same : number_at c.multiply_before.new.numbers j ≡ number_at c.args.numbers.now j =
     c.in_ok-multiply_before.ensures.numbers.after j l ∙ c.loop.invariant.divided.after j l in
-    rw (same, c.of-step.ensures.factors) (c.requires.fit e j (omega (arith, l, c.loop.invariant.begun)) m)
+    rw (same, c.of-step.ensures.factors) (c.requires.fit e j (omega (arith, l, c.loop.invariant.begun)))
 
 -- the numbers after one turn more
 after : (c : After-divide_by-j) → IsDividedOn c.args.numbers.now c.args.other.now c.args.s.now.factors.times
@@ -46,6 +44,7 @@ after c =
     let s = c.args.s.now in
     let lesser = to_z w128 (of_z w128 c.lesser-lesser.result) in
     let by = to_z w128 c.loop.by-bits in
+    let made = c.divide_by-j.ensures.stepped in
     let part : SFits w128 c.in_ok-exact.field-0 = search rules in
     let whole : to_z w128 (of_z w128 c.in_ok-exact.field-0) *ℤ lesser ≡ by = cc (
       to_z-of_z part,
@@ -53,18 +52,26 @@ after c =
     ) in
     turned c.args.numbers.now c.args.other.now c.loop.numbers c.multiply_before.new.numbers
     c.divide_by-j.new.numbers s.factors.times s.factors.less s.divider.by by
-    (to_z w128 (of_z w128 c.in_ok-exact.field-0)) lesser whole c.loop.invariant.begun c.divide_by-j.ensures.after
+    (to_z w128 (of_z w128 c.in_ok-exact.field-0)) lesser whole c.loop.invariant.begun made.begun
     c.loop.invariant.divided c.in_ok-multiply_before.ensures.numbers
-    (rw (c.of-step.ensures.factors, c.of-step.ensures.by) at c.divide_by-j.ensures.divided)
+    (rw (c.of-step.ensures.factors, c.of-step.ensures.by) at made.written)
+
+-- and their marks
+marked : (c : After-divide_by-j) → AreBeside c.multiply_before.new.numbers c.args.other.now c.args.marks.now →
+    AreMarked c.divide_by-j.new.numbers c.args.marks.now
+marked c b = still _ _ _ _ _ _ _ _ _ _ _ c.divide_by-j.ensures.stepped c.divide_by-j.auto.numbers b.own
 
 pub loop-preserved : goal.loop-preserved
-loop-preserved c = record {
-  begun = omega arith;
-  room = omega arith;
-  divided = after (goal.at.loop-preserved c).After-divide_by-j;
-}
+loop-preserved c =
+    let p = (goal.at.loop-preserved c).After-divide_by-j in
+    record {
+      begun = omega arith;
+      room = omega arith;
+      divided = after p;
+      marked = marked p (beside (goal.at.loop-preserved c).After-of-step);
+    }
 
-pub returns-then-count-j : goal.returns-then-count-j
-returns-then-count-j c =
-    let end : c.divide_by-j.result.end ≡ c.args.count = omega arith in
-    rw end at (after (goal.at.returns-then-count-j c).After-divide_by-j)
+pub returns-then-count-j-clause-ok : goal.returns-then-count-j-clause-ok
+returns-then-count-j-clause-ok c =
+    let end : c.divide_by-j.result.end ≡ length c.args.numbers.now = omega arith in
+    rw end at (after (goal.at.returns-then-count-j-clause-ok c).After-divide_by-j)

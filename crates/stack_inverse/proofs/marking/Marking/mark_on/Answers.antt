@@ -1,35 +1,57 @@
-use Rattle.std.proofs.Common.{◌≡◌, ◌<◌, refl, sym, ap, subst, ◌∙◌, ℕ, List, length, set, length-set, max}
-use Rattle.std.proofs.Common.{arith, rules}
+use Rattle.std.proofs.Common.{◌≡◌, ◌<◌, refl, sym, ap, subst, ◌∙◌, ℕ, List, length, length-set, get_or, max}
+use Rattle.std.proofs.Common.{arith}
+use Rattle.std.proofs.lemmas.List.{get_or_default}
 use Rattle.stack_rational.proofs.Common.{ℕ_discrete}
-use Rattle.stack_inverse.specs.declared.marking.Marking.{Marking}
-use Rattle.stack_inverse.specs.declared.marks.Marks.{Marks}
+use Rattle.stack_rows.specs.declared.marks.Marks.{Marks}
 use Rattle.stack_inverse.specs.declared.to_visit.ToVisit.{ToVisit}
-use Rattle.stack_inverse.specs.Marks.{mark_in, list_at, mark_at, HaveWords}
-use Rattle.stack_inverse.proofs.Marked.{list_read, list_put, wide_put}
+use Rattle.stack_rows.specs.Marks.{mark_in}
+use Rattle.stack_inverse.specs.Marks.{list_at, mark_at, HaveWords}
+use Rattle.stack_inverse.proofs.Marked.{list_read, list_put, wide_put, listed_in, each_listed}
 use Rattle.stack_inverse.proofs.PutRow.{written, written_long}
 use Rattle.stack_inverse.proofs.marking.Marking.mark_on.Goals as goal
-use Rattle.stack_inverse.proofs.marking.Marking.mark_on.Goals.{then-row-r-ne0, else-row-r-ne0}
+use Rattle.stack_inverse.proofs.marking.Marking.mark_on.Goals.{After-from-r}
 
--- the index of a turn is below the length of the lists
-below : {r n m k l : ℕ} → r < n → n ≡ m → m ≡ k → l ≡ k → r < l
-below a b c d = omega (arith, a, b, c, d)
+-- the place of a turn, and that it is one of the lists
+place : (c : After-from-r) → c.from-r.result ≡ get_or c.args.pivot.now.list.items c.loop-i.i 0
+place c =
+    let p = c.args.pivot.now in
+    c.from-r.ensures ∙ c.index.ensures ∙ get_or_default p.list.items c.loop-i.i c.index.result.now 0
+    (omega (arith, c.loop-i-test.true, p.places.room))
+
+below : (c : After-from-r) → c.from-r.result < length c.loop-i.self.places.items
+below c = omega (
+  arith,
+  place c,
+  listed_in c.args.pivot.now (length c.args.self.now.places.items) c.requires c.loop-i.i c.loop-i-test.true,
+  c.loop-i.invariant.places_long,
+)
+
+used : (c : After-from-r) → c.from-r.result < length c.loop-i.self.uses.items
+used c = omega (arith, below c, c.loop-i.self.uses_long)
+
+pub index_mut-requires : goal.index_mut-requires
+index_mut-requires c = omega (arith, below (goal.at.index_mut-requires c).After-from-r, c.loop-i.self.places.ok.0)
+
+pub index-requires-in-loop-i : goal.index-requires-in-loop-i
+index-requires-in-loop-i c = omega (
+  arith,
+  used (goal.at.index-requires-in-loop-i c).After-from-r,
+  c.loop-i.self.uses.ok.0,
+)
 
 pub join-requires : goal.join-requires
 join-requires c =
-    let k = c.loop-r.self in
-    let r = c.loop-r.r in
-    let lt = below c.loop-r-test.true c.len-r-end.ensures c.args.self.now.places.ok.0
-    c.loop-r.invariant.places_long in
-    sym (ap length (list_read k.places.items r c.index_mut.result.now lt c.index_mut.ensures.value)
-    ∙ k.places_wide r lt)
+    let k = c.loop-i.self in
+    let lt = below (goal.at.join-requires c).After-from-r in
+    sym (ap length (list_read k.places.items c.from-r.result c.index_mut.result.now lt c.index_mut.ensures.value)
+    ∙ k.places_wide c.from-r.result lt)
 
-pub join-requires-then-row-r-ne0 : goal.join-requires-then-row-r-ne0
-join-requires-then-row-r-ne0 c =
-    let k = c.loop-r.self in
-    let r = c.loop-r.r in
-    let lu = below c.loop-r-test.true c.len-r-end.ensures c.args.self.now.places.ok.0
-    (k.uses_long ∙ c.loop-r.invariant.places_long) in
-    ap length (list_read k.uses.items r c.index.result.now lu c.index.ensures) ∙ k.uses_wide r lu
+pub join-requires-in-loop-i : goal.join-requires-in-loop-i
+join-requires-in-loop-i c =
+    let k = c.loop-i.self in
+    let lu = used (goal.at.join-requires-in-loop-i c).After-from-r in
+    ap length (list_read k.uses.items c.from-r.result c.index-in-loop-i.result.now lu c.index-in-loop-i.ensures)
+    ∙ k.uses_wide c.from-r.result lu
 
 pub invariant_of-self-clause-places_wide : goal.invariant_of-self-clause-places_wide
 invariant_of-self-clause-places_wide c =
@@ -48,71 +70,71 @@ invariant_of-self-clause-uses_long c =
 pub invariant_of-self-clause-uses_wide : goal.invariant_of-self-clause-uses_wide
 invariant_of-self-clause-uses_wide c = λ r l. c.args.self.now.uses_wide r l ∙ sym c.fill.ensures.long
 
-pub invariant_of-self-then-row-r-ne0-clause-places_wide : goal.invariant_of-self-then-row-r-ne0-clause-places_wide
-invariant_of-self-then-row-r-ne0-clause-places_wide c =
-    let k = c.loop-r.self in
-    let lt = below c.loop-r-test.true c.len-r-end.ensures c.args.self.now.places.ok.0
-    c.loop-r.invariant.places_long in
-    wide_put k.places.items c.loop-r.r c.index_mut.result.now c.join.new.self lt
+pub invariant_of-self-in-loop-i-clause-places_wide : goal.invariant_of-self-in-loop-i-clause-places_wide
+invariant_of-self-in-loop-i-clause-places_wide c =
+    let k = c.loop-i.self in
+    let lt = below (goal.at.invariant_of-self-in-loop-i-clause-places_wide c).After-from-r in
+    wide_put k.places.items c.from-r.result c.index_mut.result.now c.join.new.self lt
     (c.join.ensures.long ∙ ap (λ (m : Marks). length m.words.items) c.index_mut.ensures.value) refl _ k.places_wide
 
-pub invariant_of-self-then-row-r-ne0-clause-uses_long : goal.invariant_of-self-then-row-r-ne0-clause-uses_long
-invariant_of-self-then-row-r-ne0-clause-uses_long c =
-    c.loop-r.self.uses_long ∙ sym (length-set c.loop-r.self.places.items c.loop-r.r c.join.new.self)
+pub invariant_of-self-in-loop-i-clause-uses_long : goal.invariant_of-self-in-loop-i-clause-uses_long
+invariant_of-self-in-loop-i-clause-uses_long c =
+    c.loop-i.self.uses_long ∙ sym (length-set c.loop-i.self.places.items c.from-r.result c.join.new.self)
 
-pub invariant_of-self-then-row-r-ne0-clause-uses_wide : goal.invariant_of-self-then-row-r-ne0-clause-uses_wide
-invariant_of-self-then-row-r-ne0-clause-uses_wide c = λ r l. c.loop-r.self.uses_wide r l
-    ∙ sym c.join-then-row-r-ne0.ensures.long
+pub invariant_of-self-in-loop-i-clause-uses_wide : goal.invariant_of-self-in-loop-i-clause-uses_wide
+invariant_of-self-in-loop-i-clause-uses_wide c = λ r l. c.loop-i.self.uses_wide r l ∙ sym c.join-in-loop-i.ensures.long
 
-pub loop-r-preserved : goal.loop-r-preserved
-loop-r-preserved c = elim c.if-row-r-ne0.branch [
-  | then-row-r-ne0 w ↦
-      let s = c.args.self.now in
-      let i = c.loop-r.invariant in
-      let k = c.loop-r.self in
-      let r = c.loop-r.r in
-      let lists = k.places.items in
-      let d = w.index_mut.result.now in
-      let new = w.join.new.self in
-      let lt = below c.loop-r-test.true c.len-r-end.ensures s.places.ok.0 i.places_long in
-      let lu = below c.loop-r-test.true c.len-r-end.ensures s.places.ok.0 (k.uses_long ∙ i.places_long) in
-      let is : c.if-row-r-ne0.self.places.items ≡ set lists r new = ap (λ (m : Marking). m.places.items) w.self-is in
-      let put = list_put lists r d new lt
-      (w.join.ensures.long ∙ ap (λ (m : Marks). length m.words.items) w.index_mut.ensures.value) is in
-      let both : (j : ℕ) → mark_in new.words.items j
-      ≡ max (mark_in d.words.items j) (mark_in s.to_visit.touched.words.items j) =
-      λ j. w.join.ensures.joined j ∙ ap (λ (v : ToVisit). max (mark_in d.words.items j)
-      (mark_in v.touched.words.items j)) i.to_visit in
-      let opened : (j : ℕ) → mark_in c.if-row-r-ne0.self.«open».words.items j
-      ≡ max (mark_in k.«open».words.items j) (mark_at s.uses.items r j) =
-      λ j. ap (λ (m : Marking). mark_in m.«open».words.items j) w.self-is ∙ w.join-then-row-r-ne0.ensures.joined j
-      ∙ ap (λ (ws : List ℕ). max (mark_in k.«open».words.items j) (mark_in ws j))
-      (list_read k.uses.items r w.index.result.now lu w.index.ensures
-      ∙ ap (λ (ls : List Marks). list_at ls r) i.uses) in
-      record {
-        places_long = ap length is ∙ length-set lists r new ∙ i.places_long;
-        open_long = ap (λ (m : Marking). length m.«open».words.items) w.self-is
-            ∙ w.join-then-row-r-ne0.ensures.long ∙ i.open_long;
-        uses = ap (λ (m : Marking). m.uses.items) w.self-is ∙ i.uses;
-        to_visit = ap (λ (m : Marking). m.to_visit) w.self-is ∙ i.to_visit;
-        places_kept = λ q j. put (λ q m. mark_in m j ≡ 0 → mark_at s.places.items q j ≡ 0) q
-            (λ n. i.places_kept q j) (λ z. i.places_kept r j (ap (λ (ws : List ℕ). mark_in ws j)
-            (sym (list_read lists r d lt w.index_mut.ensures.value)) ∙ omega (arith, z, both j)));
-        joined = λ q j l h. put (λ q m. mark_in m j ≡ 0 → mark_in s.to_visit.touched.words.items j ≡ 0) q
-            (λ n. i.joined q j (omega (arith, l, n)) h) (λ z. omega (arith, z, both j));
-        marks_kept = λ j z. i.marks_kept j (omega (arith, z, opened j));
-        unused = λ q j l h z. elim (ℕ_discrete q r) [
-          | yes e ↦ ap (λ n. mark_at s.uses.items n j) e ∙ omega (arith, z, opened j)
-          | no n ↦ i.unused q j (omega (arith, l, n)) h (omega (arith, z, opened j))
-        ];
-      }
-  | else-row-r-ne0 w ↦ search rules
-]
+pub loop-i-preserved : goal.loop-i-preserved
+loop-i-preserved c =
+    let s = c.args.self.now in
+    let list = c.args.pivot.now.list.items in
+    let i = c.loop-i.invariant in
+    let k = c.loop-i.self in
+    let r = c.from-r.result in
+    let at = (goal.at.loop-i-preserved c).After-from-r in
+    let is = place at in
+    let lists = k.places.items in
+    let d = c.index_mut.result.now in
+    let new = c.join.new.self in
+    let lt = below at in
+    let put = list_put lists r d new lt
+    (c.join.ensures.long ∙ ap (λ (m : Marks). length m.words.items) c.index_mut.ensures.value) refl in
+    let both : (j : ℕ) → mark_in new.words.items j
+    ≡ max (mark_in d.words.items j) (mark_in s.to_visit.touched.words.items j) =
+    λ j. c.join.ensures.joined j ∙ ap (λ (v : ToVisit). max (mark_in d.words.items j)
+    (mark_in v.touched.words.items j)) i.to_visit in
+    let opened : (j : ℕ) → mark_in c.join-in-loop-i.new.self.words.items j
+    ≡ max (mark_in k.«open».words.items j) (mark_at s.uses.items r j) =
+    λ j. c.join-in-loop-i.ensures.joined j
+    ∙ ap (λ (ws : List ℕ). max (mark_in k.«open».words.items j) (mark_in ws j))
+    (list_read k.uses.items r c.index-in-loop-i.result.now (used at) c.index-in-loop-i.ensures
+    ∙ ap (λ (ls : List Marks). list_at ls r) i.uses) in
+    record {
+      places_long = length-set lists r new ∙ i.places_long;
+      open_long = c.join-in-loop-i.ensures.long ∙ i.open_long;
+      uses = i.uses;
+      to_visit = i.to_visit;
+      places_kept = λ q j. put (λ q m. mark_in m j ≡ 0 → mark_at s.places.items q j ≡ 0) q
+          (λ n. i.places_kept q j) (λ z. i.places_kept r j (ap (λ (ws : List ℕ). mark_in ws j)
+          (sym (list_read lists r d lt c.index_mut.ensures.value)) ∙ omega (arith, z, both j)));
+      joined = λ a j l. put (λ q m. mark_in m j ≡ 0 → mark_in s.to_visit.touched.words.items j ≡ 0) (get_or list a 0)
+          (λ n. elim (ℕ_discrete a c.loop-i.i) [
+            | yes e ↦ absurd (n (ap (λ m. get_or list m 0) e ∙ sym is))
+            | no o ↦ i.joined a j (omega (arith, l, o))
+          ]) (λ z. omega (arith, z, both j));
+      marks_kept = λ j z. i.marks_kept j (omega (arith, z, opened j));
+      unused = λ a j l z. elim (ℕ_discrete a c.loop-i.i) [
+        | yes e ↦ ap (λ n. mark_at s.uses.items n j) (ap (λ m. get_or list m 0) e ∙ sym is)
+            ∙ omega (arith, z, opened j)
+        | no o ↦ i.unused a j (omega (arith, l, o)) (omega (arith, z, opened j))
+      ];
+    }
 
 pub returns : goal.returns
 returns c =
-    let i = c.loop-r.invariant in
-    let len = c.len-r-end.ensures ∙ c.args.self.now.places.ok.0 in
+    let i = c.loop-i.invariant in
+    let s = c.args.self.now in
+    let p = c.args.pivot.now in
     record {
       places_long = i.places_long;
       open_long = i.open_long;
@@ -120,9 +142,13 @@ returns c =
       to_visit = i.to_visit;
       done = λ _. record {
         places_kept = i.places_kept;
-        joined = λ r k l. i.joined r k (omega (arith, l, c.loop-r-test.false, len));
+        joined = λ r j l h z. each_listed p (length s.places.items) c.requires r l h
+            (ℕ_discrete (mark_in s.to_visit.touched.words.items j) 0) (λ a b e. i.joined a j
+            (omega (arith, b, c.loop-i-test.false)) (ap (λ n. mark_at c.loop-i.self.places.items n j) e ∙ z));
         marks_kept = i.marks_kept;
-        unused = λ r j l. i.unused r j (omega (arith, l, c.loop-r-test.false, len, c.args.self.now.uses_long));
+        unused = λ r j l h z. each_listed p (length s.places.items) c.requires r (omega (arith, l, s.uses_long)) h
+            (ℕ_discrete (mark_at s.uses.items r j) 0) (λ a b e. sym (ap (λ n. mark_at s.uses.items n j) e)
+            ∙ i.unused a j (omega (arith, b, c.loop-i-test.false)) z);
       };
       full = λ e. let t = c.if-not-done.false in absurd cc;
     }

@@ -5,9 +5,10 @@ use Rattle.std.proofs.lemmas.List.Elements.{All-from_recursion, recursion_from_A
 use Rattle.stack_rational.proofs.Common.{ℕ_discrete}
 use Rattle.stack_rows.specs.RowForm.{number_at}
 use Rattle.stack_inverse.specs.declared.columns.Cell.{Cell}
-use Rattle.stack_inverse.specs.declared.marks.Marks.{Marks}
+use Rattle.stack_rows.specs.declared.marks.Marks.{Marks}
 use Rattle.stack_inverse.specs.Columns.{multipliers, cells_at}
-use Rattle.stack_inverse.specs.Marks.{mark_in, mark_at}
+use Rattle.stack_rows.specs.Marks.{mark_in}
+use Rattle.stack_inverse.specs.Marks.{mark_at}
 use Rattle.stack_inverse.proofs.Entered.{rises_of, cells_below, cells_have}
 use Rattle.stack_inverse.proofs.Made.{cells_of}
 use Rattle.stack_inverse.proofs.Marked.{list_read}
@@ -59,7 +60,7 @@ loop-cell-init c = record {
   nothing = λ i z k d f l. absurd (omega (arith, l));
   marks = λ s k. record {
     places_long = k.places_long;
-    touched_long = c.clear.ensures ∙ k.touched_long;
+    touched_long = c.clear.ensures.long ∙ k.touched_long;
     open_long = k.open_long;
     told = k.told;
     used = k.used;

@@ -1,7 +1,8 @@
 use Rattle.std.proofs.Common.{◌≡◌, ℕ}
 use Rattle.std.specs.List.{AllWithin}
 use Rattle.stack_inverse.specs.Columns.{RowSeen}
-use Rattle.stack_inverse.specs.Marks.{mark_in, mark_at}
+use Rattle.stack_rows.specs.Marks.{mark_in}
+use Rattle.stack_inverse.specs.Marks.{mark_at}
 use Rattle.stack_inverse.specs.Marking.{AreMarks}
 use Rattle.stack_inverse.proofs.marking.Marking.touch.Given as goal
 

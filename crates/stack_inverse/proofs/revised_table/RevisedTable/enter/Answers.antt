@@ -6,7 +6,7 @@ use Rattle.stack_rows.specs.RowForm.{number_at}
 use Rattle.stack_inverse.specs.declared.row.TableRow.{TableRow}
 use Rattle.stack_inverse.specs.Columns.{multipliers, cells_at, AreEntered}
 use Rattle.stack_inverse.specs.RowsSeen.{seen_at}
-use Rattle.stack_inverse.specs.Marks.{mark_in}
+use Rattle.stack_rows.specs.Marks.{mark_in}
 use Rattle.stack_inverse.proofs.Made.{all_four}
 use Rattle.stack_inverse.proofs.PutRow.{written, written_long}
 use Rattle.stack_inverse.proofs.revised_table.RevisedTable.enter.Goals as goal

@@ -1,4 +1,4 @@
-use Rattle.std.proofs.Common.{◌≡◌, ◌≢◌, sym, ap, subst, subst₂, ◌∙◌, ℕ, suc, ◌+◌, ◌<◌, ◌≤◌, true, List, length, get_or}
+use Rattle.std.proofs.Common.{◌≡◌, ◌≢◌, sym, ap, subst, subst₂, ◌∙◌, ℕ, suc, ◌+◌, ◌≤◌, true, List, length, get_or}
 use Rattle.std.proofs.Common.{set, length-set, None, OnOk, IfErr, ℤ, pos, arith}
 use Rattle.std.proofs.lemmas.Result.{on_ok_weaker}
 use Rattle.stack_rational.proofs.Common.{with_items, Fraction, changed, next, ordered_fractions, is_too_wide, widest}
@@ -7,6 +7,7 @@ use Rattle.stack_table.specs.Block.{shape_of}
 use Rattle.stack_table.specs.Table.{Tabled, columns, pivoted_at}
 use Rattle.stack_table.specs.Spots.{cells_spot, pivot_spot}
 use Rattle.stack_rows.specs.RowForm.{number_at}
+use Rattle.stack_rows.specs.RowSeen.{numbers_of}
 use Rattle.stack_inverse.specs.declared.first.First.{First}
 use Rattle.stack_inverse.specs.declared.row.TableRow.{TableRow}
 use Rattle.stack_inverse.specs.RowBlock.{IsPivotedCells, AreFitting, KeepsZeros}
@@ -14,9 +15,9 @@ use Rattle.stack_inverse.specs.Columns.{RowSeen, HaveWidths}
 use Rattle.stack_inverse.specs.RowsSeen.{seen_at, number_in_row, cells_of_rows, columns_of}
 use Rattle.stack_inverse.specs.Seen.{number_in, under_in, shape_of_revised, table_of_revised}
 use Rattle.stack_inverse.specs.Marks.{least_negative}
-use Rattle.stack_inverse.specs.Marking.{AreMarks, IsMarkedOn}
+use Rattle.stack_inverse.specs.Marking.{AreMarks, AreMarkedOn, IsMarkedOn}
 use Rattle.stack_inverse.specs.CellSteps.{TellsSpot}
-use Rattle.stack_inverse.proofs.PutRow.{written, written_long, under_positive, seen_get, width_get}
+use Rattle.stack_inverse.proofs.PutRow.{written, written_long, under_positive}
 use Rattle.stack_inverse.proofs.PlacesKept.{places_kept, marks_after, ok_gives}
 use Rattle.stack_inverse.proofs.OpenColumns.{columns_kept}
 use Rattle.stack_inverse.proofs.Steps.{zero_cell}
@@ -111,33 +112,34 @@ rows_long c =
     let s = c.args.self.now in
     written_long s.rows c.pivot_rows-done.new.rows c.as_mut_slice.ensures.value c.pivot_rows-done.auto.rows ∙ s.height
 
+-- what is told of a pivot that was done
+given : (c : After-mark_on) (Q : Type 0) → OnOk c.pivot_rows-done.result Q → c.is_ok.result ≡ true → Q
+given c Q h e = ok_gives c.pivot_rows-done.result c.is_ok.result c.is_ok.ensures.value h e
+
 -- the marks and the pivot's row as it is now
 marked_on : (c : After-mark_on) → IsMarkedOn c.is_ok.result (after c c.args.row).numbers c.args.self.now.marking
     c.mark_on.new.self
 marked_on c =
-    let rows = (with_items c.args.self.now.rows c.pivot_rows-done.new.rows).items in
-    let lt : c.args.row < length rows = omega (arith, rows_long c, c.requires.row_in) in
+    let s = c.args.self.now in
     let h = c.mark_on.ensures in
-    let marked : IsMarkedOn c.is_ok.result c.as_slice-2.result.now c.args.self.now.marking c.mark_on.new.self = record {
+    let own : c.is_ok.result ≡ true → numbers_of c.pivot_rows-done.new.pivot.divided.row
+    ≡ (after c c.args.row).numbers =
+    λ e. given c _ c.pivot_rows-done.ensures.own e ∙ sym (ap (λ (rs : List TableRow). (seen_at rs c.args.row).numbers)
+    (written s.rows c.pivot_rows-done.new.rows c.as_mut_slice.ensures.value c.pivot_rows-done.auto.rows)) in
+    record {
       places_long = h.places_long;
       open_long = h.open_long;
       uses = h.uses;
       to_visit = h.to_visit;
-      done = λ e. let d = h.done e in record {
-        places_kept = d.places_kept;
-        joined = d.joined;
-        marks_kept = d.marks_kept;
-        unused = d.unused;
-      };
+      done = λ e. subst (λ (row : List ℤ). AreMarkedOn row s.marking c.mark_on.new.self) (own e) (
+          let d = h.done e in record {
+            places_kept = d.places_kept;
+            joined = d.joined;
+            marks_kept = d.marks_kept;
+            unused = d.unused;
+          });
       full = h.full;
-    } in
-    subst (λ (row : List ℤ). IsMarkedOn c.is_ok.result row c.args.self.now.marking c.mark_on.new.self)
-    (c.as_slice-2.ensures.value ∙ ap (λ (x : RowSeen). x.numbers) (seen_get rows c.args.row c.index.result.now lt
-    c.index.ensures)) marked
-
--- what is told of a pivot that was done
-given : (c : After-mark_on) (Q : Type 0) → OnOk c.pivot_rows-done.result Q → c.is_ok.result ≡ true → Q
-given c Q h e = ok_gives c.pivot_rows-done.result c.is_ok.result c.is_ok.ensures.value h e
+    }
 
 -- what a pivot that was done keeps 0
 abbrev Zeros : (f : First) (r column : ℕ) (old new : List TableRow) → Type 0
@@ -182,23 +184,23 @@ marks c =
 
 pub least_negative-self-requires-clause-marks : goal.least_negative-self-requires-clause-marks
 least_negative-self-requires-clause-marks c =
-    rw c.as_slice-3.ensures.value (marks (goal.at.least_negative-self-requires-clause-marks c).After-mark_on)
+    rw c.as_slice-2.ensures.value (marks (goal.at.least_negative-self-requires-clause-marks c).After-mark_on)
 
 pub least_negative-self-requires-clause-height : goal.least_negative-self-requires-clause-height
 least_negative-self-requires-clause-height c =
-    rw c.as_slice-3.ensures.value (rows_long (goal.at.least_negative-self-requires-clause-height c).After-mark_on)
+    rw c.as_slice-2.ensures.value (rows_long (goal.at.least_negative-self-requires-clause-height c).After-mark_on)
 
 pub invariant_of-self-2-clause-marks : goal.invariant_of-self-2-clause-marks
 invariant_of-self-2-clause-marks c =
     subst (λ (rs : List TableRow). AreMarks c.args.self.now.first (seen_at rs) c.least_negative-self.new.self)
-    c.as_slice-3.ensures.value c.least_negative-self.ensures.marks
+    c.as_slice-2.ensures.value c.least_negative-self.ensures.marks
 
 pub invariant_of-self-2-clause-found : goal.invariant_of-self-2-clause-found
 invariant_of-self-2-clause-found c =
     let f = c.args.self.now.first in
     subst (λ (rs : List TableRow). TellsFound c.least_negative-self.result (least_negative
     (number_in_row f (seen_at rs f.rows)) (length f.columns.items)))
-    c.as_slice-3.ensures.value c.least_negative-self.ensures.found
+    c.as_slice-2.ensures.value c.least_negative-self.ensures.found
 
 pub pivot_rows-done-requires-clause-touched : goal.pivot_rows-done-requires-clause-touched
 pivot_rows-done-requires-clause-touched c = rw c.as_slice.ensures.value c.requires.entered.touched
@@ -244,16 +246,4 @@ pivot_rows-done-requires-clause-long c =
 pub mark_on-requires : goal.mark_on-requires
 mark_on-requires c =
     let s = c.args.self.now in
-    let m = s.first.rows in
-    let at = (goal.at.mark_on-requires c).After-pivot_rows-done in
-    let rows = (with_items s.rows c.pivot_rows-done.new.rows).items in
-    let widths = subst (λ (rs : List TableRow). HaveWidths m (seen_at rs)) (sym (rows_are at))
-    c.pivot_rows-done.ensures.widths in
-    let height = written_long s.rows c.pivot_rows-done.new.rows c.as_mut_slice.ensures.value
-    c.pivot_rows-done.auto.rows ∙ s.height in
-    omega (
-      arith,
-      s.marks.places_long,
-      ap length c.as_slice-2.ensures.value,
-      width_get m rows c.args.row c.index.result.now height (omega (arith, c.requires.row_in)) widths c.index.ensures,
-    )
+    c.pivot_rows-done.ensures.room ∙ s.room ∙ ap suc (sym s.marks.places_long)

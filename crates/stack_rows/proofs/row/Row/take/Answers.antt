@@ -6,6 +6,6 @@ pub take_small_over-requires-clause-small : goal.take_small_over-requires-clause
 take_small_over-requires-clause-small c = λ j l.
     let f = c.args.factors in
     let row = c.args.self.now.topped j (omega (arith, l)) in
-    let pivot = c.args.pivot.now.topped j (omega (arith, l, c.requires)) in
+    let pivot = c.args.pivot.now.row.topped j (omega (arith, l, c.requires)) in
     rw (c.in-Some.ensures.times, c.in-Some.ensures.less)
     (lesser_small f.times f.less row pivot c.in-Some.ensures.small)

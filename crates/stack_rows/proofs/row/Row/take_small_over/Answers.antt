@@ -1,64 +1,61 @@
-use Rattle.std.proofs.Common.{◌≡◌, arith, rules, ap, ◌∙◌, length, pos, ◌<ℤ◌, to_z-of_z}
-use Rattle.stack_rational.proofs.Common.{with_items_is}
-use Rattle.stack_rows.proofs.Combined.{over_one}
-use Rattle.stack_rows.proofs.Taken.{taken_over}
+use Rattle.std.proofs.Common.{◌≡◌, rules, ℤ, pos, ◌<ℤ◌, ◌*ℤ◌, ◌-ℤ◌, SFits, to_z, of_z, to_z-of_z}
+use Rattle.stack_rational.proofs.Common.{w128}
+use Rattle.stack_rows.specs.EntriesSeen.{entries_of}
+use Rattle.stack_rows.proofs.Combined.{undivided, over_one}
+use Rattle.stack_rows.proofs.Sided.{taken, topped, within_top, without_sides, small_each, none_small}
 use Rattle.stack_rows.proofs.row.Row.take_small_over.Goals as goal
 
-pub returns-in-Some-clause-ok : goal.returns-in-Some-clause-ok
-returns-in-Some-clause-ok c =
-    let over = c.args.over in
+pub step_small-made-requires-clause-small : goal.step_small-made-requires-clause-small
+step_small-made-requires-clause-small c =
+    let s = c.args.self.now in
+    let p = c.args.pivot.now.row in
     let f = c.args.step.now in
-    let old = c.args.self.now.numbers in
-    let new = c.small_changed.new.numbers in
-    let numbers = with_items_is old new (c.small_changed.auto.numbers ∙ c.as_mut_slice-numbers.ensures.len) in
-    let long : length new ≡ length old.items = search rules in
+    small_each (entries_of s.entries) (entries_of p.entries) s.right p.right f.times f.less
+    (without_sides (entries_of s.entries) (entries_of p.entries) s.right p.right c.requires.width) c.requires.small
+    (none_small f.times f.less)
+
+pub step_small-made-requires-clause-top : goal.step_small-made-requires-clause-top
+step_small-made-requires-clause-top c =
+    let s = c.args.self.now in
+    within_top (entries_of s.entries) s.right s.top s.topped
+
+pub invariant_of-self : goal.invariant_of-self
+invariant_of-self c = record {
+  positive = c.args.self.now.positive;
+  topped = topped (entries_of c.step_small-made.new.self) c.args.self.now.right c.step_small-made.result.top
+      c.step_small-made.ensures.top;
+}
+
+pub invariant_of-self-2 : goal.invariant_of-self-2
+invariant_of-self-2 c =
+    let positive : pos 0 <ℤ to_z w128 (of_z w128 c.args.over) = search rules in
+    record {
+      positive = positive;
+      topped = topped (entries_of c.step_small-made.new.self) (to_z w128 (of_z w128 c.in_ok-right.right))
+          c.step_small-made.result.top c.step_small-made.ensures.top;
+    }
+
+pub returns-clause-ok : goal.returns-clause-ok
+returns-clause-ok c =
+    let s = c.args.self.now in
+    let p = c.args.pivot.now.row in
+    let f = c.args.step.now in
+    let over = c.args.over in
+    let new = c.step_small-made.new.self in
+    let x : ℤ = to_z w128 (of_z w128 c.in_ok-right.right) in
+    let right : SFits w128 c.in_ok-right.right = search rules in
+    let own : SFits w128 s.right = search rules in
+    let other : SFits w128 p.right = search rules in
+    let side : x ≡ s.right *ℤ f.times -ℤ p.right *ℤ f.less = cc (
+      to_z-of_z right,
+      to_z-of_z own,
+      to_z-of_z other,
+      c.in_ok-right.ensures,
+    ) in
     let positive : pos 0 <ℤ over = search rules in
-    let part = rw c.as_mut_slice-numbers.ensures.value at c.in-Some.ensures.part in
-    rw (c.grow_old.ensures.numbers, c.grow_old.ensures.under, numbers, to_z-of_z c.ranges.over)
-    (taken_over old.items c.args.pivot.now.numbers.items new f.times f.less (pos 1) c.requires.width long part over over
+    let divided = rw c.in_ok-made.was at c.step_small-made.ensures.divided in
+    rw (c.grow_old.ensures.numbers, c.grow_old.ensures.under, to_z-of_z c.ranges.over)
+    (taken (entries_of s.entries) (entries_of p.entries) (entries_of new) s.right p.right x f.times f.less
+    (without_sides (entries_of s.entries) (entries_of p.entries) s.right p.right c.requires.width)
+    c.step_small-made.ensures.width (pos 1) over over divided (undivided f.times f.less s.right p.right x side)
     (over_one over) positive)
-
-pub invariant_of-self-clause-nothing : goal.invariant_of-self-clause-nothing
-invariant_of-self-clause-nothing c =
-    let s = c.args.self.now in
-    let made = c.small_changed in
-    let numbers = with_items_is s.numbers made.new.numbers (made.auto.numbers ∙ c.as_mut_slice-numbers.ensures.len) in
-    let jumps = with_items_is s.jumps made.new.jumps (made.auto.jumps ∙ c.as_mut_slice.ensures.len) in
-    rw (numbers, jumps) made.ensures.jumps
-
-pub invariant_of-self-clause-few : goal.invariant_of-self-clause-few
-invariant_of-self-clause-few c =
-    let s = c.args.self.now in
-    let made = c.small_changed in
-    rw (with_items_is s.numbers made.new.numbers (made.auto.numbers ∙ c.as_mut_slice-numbers.ensures.len))
-    (omega (arith, s.few, made.auto.numbers, ap length c.as_mut_slice-numbers.ensures.value))
-
-pub invariant_of-self-clause-topped : goal.invariant_of-self-clause-topped
-invariant_of-self-clause-topped c =
-    let made = c.small_changed in
-    let long = made.auto.numbers ∙ c.as_mut_slice-numbers.ensures.len in
-    rw (with_items_is c.args.self.now.numbers made.new.numbers long) c.in-Some.ensures.top
-
-pub invariant_of-self-in-None-clause-nothing : goal.invariant_of-self-in-None-clause-nothing
-invariant_of-self-in-None-clause-nothing c =
-    let s = c.args.self.now in
-    let made = c.small_changed in
-    let numbers = with_items_is s.numbers made.new.numbers (made.auto.numbers ∙ c.as_mut_slice-numbers.ensures.len) in
-    let jumps = with_items_is s.jumps made.new.jumps (made.auto.jumps ∙ c.as_mut_slice.ensures.len) in
-    rw (numbers, jumps) made.ensures.jumps
-
-pub invariant_of-self-in-None-clause-topped : goal.invariant_of-self-in-None-clause-topped
-invariant_of-self-in-None-clause-topped c =
-    let long = c.small_changed.auto.numbers ∙ c.as_mut_slice-numbers.ensures.len in
-    let numbers = with_items_is c.args.self.now.numbers c.small_changed.new.numbers long in
-    let top = rw (c.as_slice.ensures.value ∙ numbers) at c.top_of-self.ensures in
-    rw numbers (λ j l. top j (omega arith) (omega (arith, l, long, c.saturating_sub.ensures, c.len.ensures)))
-
-pub small_changed-requires-clause-small : goal.small_changed-requires-clause-small
-small_changed-requires-clause-small c = rw c.as_mut_slice-numbers.ensures.value c.requires.small
-
-pub small_changed-requires-clause-beside : goal.small_changed-requires-clause-beside
-small_changed-requires-clause-beside c =
-    let s = c.args.self.now in
-    rw (c.as_mut_slice-numbers.ensures.value, c.as_mut_slice.ensures.value)
-    (record { width = c.requires.width; long = s.long; skips = s.nothing; topped = s.topped })

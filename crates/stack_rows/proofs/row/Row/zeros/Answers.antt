@@ -1,23 +1,20 @@
-use Rattle.std.proofs.Common.{◌≡◌, ap, arith, ℕ, nat_abs, pos}
-use Rattle.stack_rows.specs.RowForm.{number_at}
-use Rattle.stack_rows.proofs.Numbers.{of_zeros}
-use Rattle.stack_rows.proofs.Skips.{to_end}
+use Rattle.std.proofs.Common.{ap, arith, nat_abs, pos}
+use Rattle.std.proofs.lemmas.List.{length_push}
+use Rattle.stack_rows.specs.EntriesSeen.{entries_of}
+use Rattle.stack_rows.proofs.Sided.{topped, zeros_sided}
 use Rattle.stack_rows.proofs.row.Row.zeros.Goals as goal
-use Rattle.stack_rows.proofs.row.Row.zeros.Goals.{In_ok-jumps}
-
--- each number is 0
-zero : (c : In_ok-jumps) → (j : ℕ) → number_at c.in_ok-numbers.numbers.items j ≡ pos 0
-zero c j = rw (c.in_ok-numbers.ensures.items_if_clones_equal (λ y h. h)) (of_zeros _ j)
 
 pub invariant_of-result-clause-topped : goal.invariant_of-result-clause-topped
-invariant_of-result-clause-topped c = λ j l.
-    omega (arith, ap nat_abs (zero (goal.at.invariant_of-result-clause-topped c).In_ok-jumps j))
+invariant_of-result-clause-topped c = topped (entries_of c.in_ok-entries.entries) _ 0
+    (λ j. omega (arith, ap nat_abs (c.in_ok-entries.ensures.zeros j)))
 
-pub invariant_of-result-clause-nothing : goal.invariant_of-result-clause-nothing
-invariant_of-result-clause-nothing c = record {
-  further = λ j. rw (c.in_ok-jumps.ensures.items_if_clones_equal (λ y h. h)) (to_end _ _ j c.from-2.ensures);
-  between = λ j x a b. zero (goal.at.invariant_of-result-clause-nothing c).In_ok-jumps x;
-}
+pub returns-clause-width : goal.returns-clause-width
+returns-clause-width c = omega (
+  arith,
+  c.in_ok-entries.ensures.long,
+  c.requires,
+  length_push (entries_of c.in_ok-entries.entries) (pos 0),
+)
 
 pub returns-clause-zeros : goal.returns-clause-zeros
-returns-clause-zeros c = zero (goal.at.returns-clause-zeros c).In_ok-jumps
+returns-clause-zeros c = zeros_sided (entries_of c.in_ok-entries.entries) c.in_ok-entries.ensures.zeros

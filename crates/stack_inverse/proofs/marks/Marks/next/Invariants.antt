@@ -1,6 +1,0 @@
-use Rattle.std.proofs.Common.{◌≡◌, ℕ, ◌*◌, ◌<◌, ◌≤◌}
-use Rattle.stack_inverse.specs.Marks.{mark_in}
-use Rattle.stack_inverse.proofs.marks.Marks.next.Given as goal
-
-abbrev pub invariant-loop-w : goal.invariant-loop-w
-invariant-loop-w l = (j : ℕ) → l.from ≤ j → j < l.w * 64 → mark_in l.self.words.items j ≡ 0

@@ -1,0 +1,7 @@
+use Rattle.std.proofs.Common.{◌≡◌, ℕ, ◌<◌}
+use Rattle.stack_rows.specs.RowForm.{number_at}
+use Rattle.stack_rows.specs.RowSeen.{numbers_of}
+use Rattle.stack_inverse.proofs.objective.copy_numbers.Given as goal
+
+abbrev pub invariant-loop-j : goal.invariant-loop-j
+invariant-loop-j l = (k : ℕ) → k < l.j → number_at l.numbers k ≡ number_at (numbers_of l.row) k
