@@ -86,7 +86,7 @@ def families(model: Model, bearings: Sequence[Bearing], wishes: Wishes) -> Itera
         yield [Change(f"without-dead-{load.block}-{n}", f"without the dead load on {load.block} of {told(load)}",
                       missing(load)) for n, load in enumerate(still, 1)]
     if swaying and still and not model.live_loads():
-        yield [Change("dead-sways", "the dead loads that act straight down sway too", sways_too)]
+        yield [Change("dead-sways", "the dead loads that act straight down sway too, at their points", sways_too)]
     if model.sway and model.sway[0] and not model.sway[1]:
         yield from of_sway(wishes.up)
     yield [*frictions(model)]
