@@ -68,8 +68,11 @@ def lattice_of(structure: Structure, found: Sequence[Unknown], kept: Lattices, k
     """The lattice of forces without a load, made once."""
     key = kind, tuple((tuple(one.bearings), one.part) for one in found)
     if key not in kept:
-        kept[key] = None
-        kept[key] = Lattice([structure.column(one.bearings[0], one.part) for one in found], structure.blocks, kind)
+        columns = [structure.column(one.bearings[0], one.part) for one in found]
+        try:
+            kept[key] = Lattice(columns, structure.blocks, kind)
+        except NoVector:
+            kept[key] = None
     if (lattice := kept[key]) is None:
         raise NoVector
     return lattice
