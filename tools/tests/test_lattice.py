@@ -8,7 +8,7 @@ from collections.abc import Sequence
 
 import helpers  # puts tools/ where the modules are found
 
-from masonry.lp.lattice import Kind, SHADOW, Lattice, NoVector, Vector, divisible, packed, signs, unpacked
+from masonry.lp.lattice import KEPT, Kind, SHADOW, Lattice, NoVector, Vector, divisible, packed, signs, unpacked
 from masonry.lp.short_certificates import least
 from masonry.lp.supports import Sums, Supports
 
@@ -128,6 +128,18 @@ class Quick(unittest.TestCase):
             Lattice(columns, groups, Kind.SPARSE).near([0] * 9, {2: 1})
         x, y, z, w, *_ = Lattice(columns, groups).near([0] * 9, {2: 1})
         self.assertEqual((z + w, y + z + 2 * w, 4 * x + y), (0, 0, -1))
+
+
+    def test_a_thinned_lattice_drops_the_longest_vectors(self) -> None:
+        # More columns touch row 0 than a thinned lattice clears there. What it keeps still clears all sums.
+        columns = [{0: 1}, *({0: 1, 1: 2} for _ in range(2 * KEPT)), {1: 1}, {2: 1}, {3: 1}]
+        groups = [[row] for row in range(4)]
+        sparse, thinned = Lattice(columns, groups, Kind.SPARSE), Lattice(columns, groups, Kind.THINNED)
+        self.assertEqual((sparse.dropped, thinned.dropped), (False, True))
+        near = thinned.near([0] * len(columns), {0: 5, 1: 3})
+        self.assertEqual([sum(x * column.get(row, 0) for x, column in zip(near, columns)) for row in range(4)],
+                         [-5, -3, 0, 0])
+        self.assertFalse(Lattice(columns[:KEPT], groups[:2], Kind.QUICK).dropped)
 
 
 class Packed(unittest.TestCase):

@@ -423,11 +423,41 @@ class Short(Answers):
         self.balances(*short.short_forces(self.pushed, inner.amounts, self.pushed.dead))
         with mock.patch.object(short.Rounding, "least", refused):
             self.balances(*short.short_forces(self.pushed, inner.amounts, self.pushed.dead))
-        self.assertEqual(made, [*lattice.Kind])
+        # Nothing is dropped from so small a lattice when it is thinned.
+        kinds = [kind for kind in lattice.Kind if kind is not lattice.Kind.SPARSE]
+        self.assertEqual(made, kinds)
         with mock.patch.object(short, "SHORT", 1), mock.patch.object(short.Rounding, "least", autospec=True,
                                                                     side_effect=least) as tried:
             self.balances(*short.short_forces(self.pushed, inner.amounts, self.pushed.dead))
-        self.assertEqual([one.args[0].lattice.kind for one in tried.call_args_list], [*lattice.Kind])
+        self.assertEqual([one.args[0].lattice.kind for one in tried.call_args_list], kinds)
+
+    def test_a_sparse_lattice_is_made_after_a_thinned_one_that_dropped_vectors(self) -> None:
+        inner = linear.inner(self.pushed, self.pushed.dead)
+        assert inner is not None
+        found = short.Rounding(self.pushed, inner.amounts, self.pushed.dead).unknowns
+        kept: short.Lattices = {}
+        thinned = short.lattice_of(self.pushed, found, kept, lattice.Kind.THINNED)
+        self.assertFalse(thinned.dropped)
+        with self.assertRaises(lattice.NoVector):
+            short.lattice_of(self.pushed, found, kept, lattice.Kind.SPARSE)
+        thinned.dropped = True
+        short.lattice_of(self.pushed, found, kept, lattice.Kind.SPARSE)
+
+    def test_forces_found_at_one_scale_arent_lost_at_another(self) -> None:
+        inner = linear.inner(self.pushed, self.pushed.dead)
+        assert inner is not None
+        rounding = short.Rounding(self.pushed, inner.amounts, self.pushed.dead)
+        least, near = rounding.least(), rounding.near
+
+        def cleared(scale: int, half: int) -> list[tuple[int, int]]:
+            if scale < 2**20:
+                raise lattice.NoVector
+            return near(scale, half)
+
+        with mock.patch.object(rounding, "near", cleared):
+            found = rounding.least()
+        self.balances(*found)
+        self.assertLess(least[0], 2**20)
 
 
 class Refusals(Answers):

@@ -27,6 +27,7 @@ from masonry.lp.supports import Echelon, Sums, Supports, grows
 TOGETHER, QUICK_TOGETHER = 24, 8  # so many vectors are reduced together, or a few more where the sums need them
 SHADOW, QUICK_SHADOW = 64, 32  # the numbers of a shadow
 FEW_POOR = 2  # a lattice may be sparse if at most one group of so many is poor
+KEPT = 64  # so many vectors a thinned lattice clears at a group
 LIGHT = 40  # bits of the least weight of sums beside lengths
 SURE = 2**46  # multiples below this, found in floating point, are right to a small part of 1
 
@@ -40,11 +41,13 @@ class NoVector(Exception):
 class Kind(Enum):
     """A quick lattice is made in less time, and its vectors are longer. A sparse one is made in still less: it keeps no
     vector that touches only groups that stand by themselves, so it may not clear all sums that can be cleared, and has
-    no basis. It's made only where half of the groups or more do."""
+    no basis. It's made only where half of the groups or more do. A thinned one is a sparse one that clears only the
+    shortest vectors at each group, and drops the others."""
 
-    SPARSE = 1
-    QUICK = 2
-    THOROUGH = 3
+    THINNED = 1
+    SPARSE = 2
+    QUICK = 3
+    THOROUGH = 4
 
 
 class Vector:
@@ -380,13 +383,14 @@ class Lattice:
         self.steps: list[Step] = []
         self.bits = 0  # of the weight of sums at the last step
         self.basis: list[Vector] = []
+        self.dropped = False  # vectors of a thinned lattice
         self.group_of = {row: g for g, group in enumerate(groups) for row in group}
         numbers = SHADOW if kind is Kind.THOROUGH else QUICK_SHADOW
         self.reduce([Vector(column, signs(j)[:numbers], unknown=j) for j, column in enumerate(columns)])
 
     def supports(self) -> Supports | None:
         """The order of the groups of a sparse lattice."""
-        if self.kind is not Kind.SPARSE:
+        if self.kind not in (Kind.THINNED, Kind.SPARSE):
             return None
         found = Supports(self.columns, self.groups)
         if FEW_POOR * len(found.poor) > len(self.groups):
@@ -435,6 +439,9 @@ class Lattice:
             (first if grew or len(first) < min(6 + bits // 2, most) else others).append(vector)
         step, self.bits = parted(group, first, max(LIGHT, self.bits // 2))
         self.steps.append(step)
+        if self.kind is Kind.THINNED and len(others) > KEPT:
+            self.dropped = True
+            del others[KEPT:]
         return step.vectors[:step.plain] + [step.cleared(vector) for vector in others]
 
     def reaching(self, loads: Sequence[Sums]) -> list[Vector]:

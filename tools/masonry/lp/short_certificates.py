@@ -65,15 +65,19 @@ Lattices = dict[tuple[Kind, tuple[tuple[tuple[int, ...], Part], ...]], Lattice |
 
 
 def lattice_of(structure: Structure, found: Sequence[Unknown], kept: Lattices, kind: Kind = Kind.THOROUGH) -> Lattice:
-    """The lattice of forces without a load, made once."""
-    key = kind, tuple((tuple(one.bearings), one.part) for one in found)
-    if key not in kept:
+    """The lattice of forces without a load, made once. A sparse one is made only if one was thinned: else it would be
+    the same."""
+    of = tuple((tuple(one.bearings), one.part) for one in found)
+    thinned = kept.get((Kind.THINNED, of))
+    if kind is Kind.SPARSE and not (thinned and thinned.dropped):
+        raise NoVector
+    if (kind, of) not in kept:
         columns = [structure.column(one.bearings[0], one.part) for one in found]
         try:
-            kept[key] = Lattice(columns, structure.blocks, kind)
+            kept[kind, of] = Lattice(columns, structure.blocks, kind)
         except NoVector:
-            kept[key] = None
-    if (lattice := kept[key]) is None:
+            kept[kind, of] = None
+    if (lattice := kept[kind, of]) is None:
         raise NoVector
     return lattice
 
@@ -146,10 +150,14 @@ class Rounding:
         return found
 
     def of(self, scale: int) -> Forces | None:
-        """The same at a multiple of the least scale, both divided by what divides all."""
-        parts = self.near(scale, 1 << FINE - 1)
-        if not self.structure.admits(parts):
-            parts = self.near(scale, 0)
+        """The same at a multiple of the least scale, both divided by what divides all. A sparse lattice may not have
+        what clears the sums there."""
+        try:
+            parts = self.near(scale, 1 << FINE - 1)
+            if not self.structure.admits(parts):
+                parts = self.near(scale, 0)
+        except NoVector:
+            return None
         self.multiple = self.multiple_for(parts, scale)
         if not self.structure.admits(parts):
             return None
@@ -290,11 +298,11 @@ def is_short(forces: Forces) -> bool:
 def short_forces(structure: Structure, amounts: Amounts, load: Sequence[int], tried: Tried | None = None,
                  kept: Lattices | None = None) -> Forces:
     """A scale and whole parts of all bearings, near given amounts, that carry the scale times a whole load. The
-    lattices that are made are kept, by the unknowns, for structures with the same bearings. If a sparse lattice
-    finds none, or long ones, a quick one is made, and then a thorough one."""
+    lattices that are made are kept, by the unknowns, for structures with the same bearings. If a thinned lattice finds
+    none, or long ones, a sparse one is made, then a quick one, and then a thorough one."""
     tried, kept = tried or Tried(), {} if kept is None else kept
     before = tried.bits
-    for kind in Kind.SPARSE, Kind.QUICK:
+    for kind in Kind.THINNED, Kind.SPARSE, Kind.QUICK:
         with suppress(NoVector, NotFound, ArithmeticError):
             found = tried.forces(Rounding(structure, amounts, load, kept, kind))
             if is_short(found):
